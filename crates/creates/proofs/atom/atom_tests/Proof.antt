@@ -1,0 +1,28 @@
+-- `creates::atom::atom_tests` meets its contract. Assumes nothing.
+use Rattle.rules.proofs.Sound.{store-lent}
+use Rattle.rules.specs.Said.{need}
+use mathlib.Core.Path.{sym, _∙_}
+use borrow.Author.Needs.{needs}
+use Rattle.creates.proofs.atom.atom_tests.Statement.{statement}
+use Rattle.creates.proofs.atom.atom_tests.Tie as tie
+use Rattle.creates.proofs.atom.atom_tests.Reads as reads
+use Rattle.creates.proofs.atom.atom_tests.Lts as lts
+use Rattle.creates.proofs.atom.limit_tests.Reads as limit-tests-reads
+use Rattle.state.proofs.sound.store_sound.Reads as store-sound-reads
+
+store-sound-requires : tie.Need-store-sound-requires
+store-sound-requires c κs = search needs
+
+limit-tests-requires : tie.Need-limit-tests-requires
+limit-tests-requires c κs = store-lent _ _ _ _ (sym (c .before .store-sound .ensures) ∙ c .if1 .taken) .atoms .limits
+
+returns : tie.Need-returns
+unfolding need
+returns c = simp (c .limit-tests .ensures, ← (c .before .before .store-sound .ensures), c .before .if1 .taken)
+
+returns-2 : tie.Need-returns-2
+unfolding need
+returns-2 c = simp (← (c .before .store-sound .ensures), c .if1 .left)
+
+pub atom-tests-spec : {M : Type 1} → statement M
+atom-tests-spec = tie.close (tie.spec store-sound-requires limit-tests-requires returns returns-2)

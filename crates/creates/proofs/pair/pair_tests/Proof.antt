@@ -1,0 +1,76 @@
+-- `creates::pair::pair_tests` meets its contract. Assumes nothing.
+use Rattle.rules.specs.State.{pairs}
+use Rattle.rules.specs.Said.{need}
+use borrow.Author.Tests.{lt-ltb, le-ltb}
+use native.Mathlib.Omega.{arith}
+use Prim.Native.Nat.{_+_, _≤_, _<_}
+use borrow.Author.Needs.{needs}
+use Rattle.creates.proofs.pair.pair_tests.Statement.{statement}
+use Rattle.creates.proofs.pair.pair_tests.Tie as tie
+use Rattle.creates.proofs.pair.pair_tests.Reads as reads
+use Rattle.creates.proofs.pair.pair_tests.Lts as lts
+use Rattle.creates.proofs.atom.slot_room.Reads as slot-room-reads
+use Rattle.state.proofs.sound.pairs_sound.Reads as pairs-sound-reads
+use Rattle.state.proofs.sound.total.Reads as total-reads
+use Rattle.state.proofs.sound.valid.Reads as valid-reads
+
+pairs-sound-requires : tie.Need-pairs-sound-requires
+pairs-sound-requires c κs = search needs
+
+valid-requires : tie.Need-valid-requires
+valid-requires c κs = search needs
+
+valid-requires-2 : tie.Need-valid-requires-2
+valid-requires-2 c κs = search needs
+
+total-requires : tie.Need-total-requires
+total-requires c κs = search needs
+
+returns : tie.Need-returns
+unfolding need
+returns c =
+    let h : 62500000 ≤ pairs (c .before .before .before .before .before .before .before .before .args .a) = omega arith in
+    simp (← (c .before .before .before .before .before .before .before .pairs-sound .ensures), c .before .before .before .before .before .before .if1 .taken, ← (c .before .before .before .before .before .valid .ensures), c .before .before .before .before .if2 .taken, ← (c .before .before .before .valid2 .ensures), c .before .before .if3 .taken, le-ltb _ _ h)
+
+slot-room-requires : tie.Need-slot-room-requires
+slot-room-requires c κs = search needs
+
+returns-2 : tie.Need-returns-2
+unfolding need
+returns-2 c =
+    let h : pairs (c .before .before .before .before .before .before .before .before .before .before .args .a) < 62500000 = omega arith in
+    simp (← (c .before .before .before .before .before .before .before .before .before .pairs-sound .ensures), c .before .before .before .before .before .before .before .before .if1 .taken, ← (c .before .before .before .before .before .before .before .valid .ensures), c .before .before .before .before .before .before .if2 .taken, ← (c .before .before .before .before .before .valid2 .ensures), c .before .before .before .before .if3 .taken, lt-ltb _ _ h, ← (c .before .slot-room .ensures), c .if5 .taken)
+
+returns-3 : tie.Need-returns-3
+unfolding need
+returns-3 c =
+    let h : pairs (c .before .before .before .before .before .before .before .before .before .before .args .a) < 62500000 = omega arith in
+    simp (← (c .before .before .before .before .before .before .before .before .before .pairs-sound .ensures), c .before .before .before .before .before .before .before .before .if1 .taken, ← (c .before .before .before .before .before .before .before .valid .ensures), c .before .before .before .before .before .before .if2 .taken, ← (c .before .before .before .before .before .valid2 .ensures), c .before .before .before .before .if3 .taken, lt-ltb _ _ h, ← (c .before .slot-room .ensures), c .if5 .left)
+
+returns-4 : tie.Need-returns-4
+unfolding need
+returns-4 c = simp (← (c .before .before .before .before .before .pairs-sound .ensures), c .before .before .before .before .if1 .taken, ← (c .before .before .before .valid .ensures), c .before .before .if2 .taken, ← (c .before .valid2 .ensures), c .if3 .left)
+
+returns-5 : tie.Need-returns-5
+unfolding need
+returns-5 c = simp (← (c .before .before .before .pairs-sound .ensures), c .before .before .if1 .taken, ← (c .before .valid .ensures), c .if2 .left)
+
+returns-6 : tie.Need-returns-6
+unfolding need
+returns-6 c = simp (← (c .before .pairs-sound .ensures), c .if1 .left)
+
+pub pair-tests-spec : {M : Type 1} → statement M
+pair-tests-spec =
+    tie.close
+    (tie.spec
+    pairs-sound-requires
+    valid-requires
+    valid-requires-2
+    total-requires
+    returns
+    slot-room-requires
+    returns-2
+    returns-3
+    returns-4
+    returns-5
+    returns-6)

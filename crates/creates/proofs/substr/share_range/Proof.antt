@@ -1,0 +1,88 @@
+-- `creates::substr::share_range` meets its contract. Assumes nothing.
+use Prim.Native.Nat.{_<_}
+use Rattle.creates.proofs.Rooms.{slot-room}
+use lib.ListN.{length}
+use Rattle.rules.specs.Creates.{shareRange}
+use Rattle.rules.specs.Said.{need}
+use native.Mathlib.Omega.{arith}
+use mathlib.Core.Path.{sym, _∙_}
+use borrow.Author.Needs.{needs}
+use Rattle.creates.proofs.substr.share_range.Statement.{statement}
+use Rattle.creates.proofs.substr.share_range.Tie as tie
+use Rattle.creates.proofs.substr.share_range.Reads as reads
+use Rattle.creates.proofs.substr.share_range.Lts as lts
+use Rattle.creates.proofs.atom.slot_room.Reads as slot-room-reads
+use Rattle.creates.proofs.refused.Reads as refused-reads
+use Rattle.node.proofs.new.Reads as new-reads
+use Rattle.state.proofs.record.used_atom.Reads as used-atom-reads
+
+-- what the test of the room told
+room : (c : tie.Then1) → let s = c .before .before .before .before .args in (s .a .used .atoms < length (s .starts .now)) × (s .a .used .atoms < length (s .ends .now))
+room c = let s = c .before .before .before .before .args in slot-room (s .a .used .atoms) (length (s .starts .now)) (length (s .ends .now)) (sym (c .before .slot-room .ensures) ∙ c .if1 .taken)
+
+slot-room-requires : tie.Need-slot-room-requires
+slot-room-requires c κs = search needs
+
+cast-starts : tie.Need-cast-starts
+cast-starts c = search needs
+
+mul-starts : tie.Need-mul-starts
+mul-starts c = search needs
+
+slice-write-starts : tie.Need-slice-write-starts
+slice-write-starts c = omega (arith, room c)
+
+cast-ends : tie.Need-cast-ends
+cast-ends c = search needs
+
+mul-ends : tie.Need-mul-ends
+mul-ends c = search needs
+
+slice-write-ends : tie.Need-slice-write-ends
+slice-write-ends c = omega (arith, room c)
+
+cast-new : tie.Need-cast-new
+cast-new c = search needs
+
+new-requires : tie.Need-new-requires
+new-requires c κs = search needs
+
+used-atom-requires : tie.Need-used-atom-requires
+used-atom-requires c κs = search needs
+
+same-length : tie.Need-same-length
+same-length c = search needs
+
+same-length-2 : tie.Need-same-length-2
+same-length-2 c = search needs
+
+returns : tie.Need-returns
+unfolding shareRange need
+returns c = λ b. simp (c .used-atom .ensures, c .before .new .ensures, ← (c .before .before .before .slot-room .ensures), c .before .before .if1 .taken)
+
+refused-requires : tie.Need-refused-requires
+refused-requires c κs = search needs
+
+returns-2 : tie.Need-returns-2
+unfolding shareRange need
+returns-2 c = λ b. simp (c .refused .ensures .0, c .refused .ensures .1, ← (c .before .before .slot-room .ensures), c .before .if1 .left)
+
+pub share-range-spec : {M : Type 1} → statement M
+share-range-spec =
+    tie.close
+    (tie.spec
+    slot-room-requires
+    cast-starts
+    mul-starts
+    slice-write-starts
+    cast-ends
+    mul-ends
+    slice-write-ends
+    cast-new
+    new-requires
+    used-atom-requires
+    same-length
+    same-length-2
+    returns
+    refused-requires
+    returns-2)

@@ -1,0 +1,52 @@
+-- `creates::substr::substr_tests` meets its contract. Assumes nothing.
+use Rattle.rules.proofs.Sound.{store-lent}
+use Rattle.rules.specs.State.{atoms}
+use Rattle.rules.specs.Said.{need}
+use borrow.Author.Tests.{lt-ltb, le-ltb}
+use native.Mathlib.Omega.{arith}
+use mathlib.Core.Path.{sym, _∙_}
+use Prim.Native.Nat.{_+_, _≤_, _<_}
+use borrow.Author.Needs.{needs}
+use Rattle.creates.proofs.substr.substr_tests.Statement.{statement}
+use Rattle.creates.proofs.substr.substr_tests.Tie as tie
+use Rattle.creates.proofs.substr.substr_tests.Reads as reads
+use Rattle.creates.proofs.substr.substr_tests.Lts as lts
+use Rattle.creates.proofs.substr.bounded_atom.Reads as bounded-atom-reads
+use Rattle.state.proofs.sound.store_sound.Reads as store-sound-reads
+use Rattle.state.proofs.sound.total.Reads as total-reads
+
+store-sound-requires : tie.Need-store-sound-requires
+store-sound-requires c κs = search needs
+
+total-requires : tie.Need-total-requires
+total-requires c κs = search needs
+
+returns : tie.Need-returns
+unfolding need
+returns c =
+    let h : 62500000 ≤ atoms (c .before .before .before .before .before .before .args .a) = omega arith in
+    simp (← (c .before .before .before .store-sound .ensures), c .before .before .if1 .taken, le-ltb _ _ h)
+
+bounded-atom-requires : tie.Need-bounded-atom-requires
+bounded-atom-requires c κs = omega (arith, store-lent _ _ _ _ (sym (c .before .before .before .store-sound .ensures) ∙ c .before .before .if1 .taken))
+
+returns-2 : tie.Need-returns-2
+unfolding need
+returns-2 c =
+    let h : atoms (c .before .before .before .before .before .before .before .args .a) < 62500000 = omega arith in
+    simp (c .bounded-atom .ensures, ← (c .before .before .before .before .store-sound .ensures), c .before .before .before .if1 .taken, lt-ltb _ _ h)
+
+returns-3 : tie.Need-returns-3
+unfolding need
+returns-3 c = simp (← (c .before .store-sound .ensures), c .if1 .left)
+
+pub substr-tests-spec : {M : Type 1} → statement M
+substr-tests-spec =
+    tie.close
+    (tie.spec
+    store-sound-requires
+    total-requires
+    returns
+    bounded-atom-requires
+    returns-2
+    returns-3)

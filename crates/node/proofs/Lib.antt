@@ -1,0 +1,2 @@
+-- Laws about bytes and numbers that the proofs cite.
+pub mod Laws

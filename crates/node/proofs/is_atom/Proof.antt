@@ -1,0 +1,30 @@
+-- `node::is_atom` meets its contract: each arm is told the kind, and the definition goes by it.
+use borrow.Author.Needs.{needs}
+use Rattle.node.proofs.is_atom.Statement.{statement}
+use Rattle.node.proofs.is_atom.Tie as tie
+
+returns : tie.Need-returns
+returns c = simp (← (c .before .before .object-type .ensures), c .enum-told .given .1)
+
+returns-2 : tie.Need-returns-2
+returns-2 c = simp (← (c .before .before .object-type .ensures), c .enum-told2 .given .1)
+
+returns-3 : tie.Need-returns-3
+returns-3 c = simp (← (c .before .before .object-type .ensures), c .enum-told3 .given .1)
+
+returns-4 : tie.Need-returns-4
+returns-4 c = simp (← (c .before .before .before .object-type .ensures), c .before .kind .given .1)
+
+pub is-atom-spec : {M : Type 1} → statement M
+is-atom-spec =
+    tie.close
+    (tie.spec
+    (λ c κs. search needs)
+    (λ c. search needs)
+    (λ c. search needs)
+    (λ c. search needs)
+    (λ c. search needs)
+    returns
+    returns-2
+    returns-3
+    returns-4)

@@ -1,0 +1,171 @@
+-- Laws of comparing bytes, and of the part that atom hands back. Assumes nothing.
+use Prim.Native.Nat.{ℕ, _+_, _-_, _≤_, _<_}
+use mathlib.Core.Path.{_≡_, refl, sym, ap, ap₂, subst, _∙_}
+use mathlib.Core.Bool.{Bool, true, false, false≢true}
+use mathlib.Core.List.{List, [], _∷_, _++_, append-nil}
+use mathlib.Core.Option.{none, some}
+use native.Mathlib.Numerals.{add-one}
+use native.Mathlib.Omega.{arith}
+use lib.Dec.{eqb}
+use lib.ListN.{length, getD, take, drop, length-drop, drop-of-length-le}
+use lib.Seq.{drop-cons, take-all}
+use borrow.Author.Tests.{eq-eqb, ne-eqb, eqb-true}
+use Rattle.rules.specs.declared.Allocator.{Allocator}
+use Rattle.rules.specs.Small.{fits, lenFor, be, smallBytes, Octets}
+use Rattle.rules.specs.Said.{Said, says, refuses, saysOf}
+use Rattle.rules.specs.Node.{nil}
+use Rattle.rules.specs.State.{AtomSlots, Store, storeSound}
+use Rattle.rules.specs.Reads.{Arg, pairArg, bytesArg, smallArg, Atom, range, value, atomArg, atomOf, atomBytes, partOf, atom, scratchAfter, partBytes, sameBytes, eqArgs}
+use Rattle.rules.proofs.Tests.{both}
+use Rattle.rules.proofs.Needs.{need-ind}
+use Rattle.rules.proofs.Sound.{store-lent}
+use Rattle.rules.proofs.Args.{AtomIn, atom-in}
+use Rattle.rules.proofs.Smalls.{fits-value, fits-bytes, bytes-fit, small-length, length-be, be-low}
+use Rattle.reads.specs.Parts.{Inside}
+
+-- ---- sameBytes is equality
+
+pub same-refl : (x : List ℕ) → sameBytes x x ≡ true
+unfolding sameBytes
+same-refl [] = refl
+same-refl (a ∷ x) = rw (eq-eqb a a refl) (same-refl x)
+
+pub same-true : (x y : List ℕ) → sameBytes x y ≡ true → x ≡ y
+unfolding sameBytes
+same-true [] [] h = refl
+same-true [] (b ∷ y) h = absurd (false≢true h)
+same-true (a ∷ x) [] h = absurd (false≢true h)
+same-true (a ∷ x) (b ∷ y) h = let p = both _ _ h in ap₂ _∷_ (eqb-true a b (p .0)) (same-true x y (p .1))
+
+-- a test that holds exactly where two byte strings are equal is sameBytes
+decided : (x y : List ℕ) (b : Bool) → (b ≡ true → x ≡ y) → (x ≡ y → b ≡ true) → sameBytes x y ≡ b
+decided x y true f g = rw (f refl) (same-refl y)
+decided x y false f g = other (sameBytes x y) refl
+  where
+    other : (s : Bool) → sameBytes x y ≡ s → s ≡ false
+    other true e = sym (g (same-true x y e))
+    other false e = refl
+
+pub same-comm : (x y : List ℕ) → sameBytes x y ≡ sameBytes y x
+same-comm x y = decided x y (sameBytes y x) (λ h. sym (same-true y x h)) (λ e. rw e (same-refl y))
+
+pub same-lengths : (x y : List ℕ) → (length x ≡ length y → ⊥) → sameBytes x y ≡ false
+same-lengths x y f = decided x y false (λ h. absurd (false≢true h)) (λ e. absurd (f (ap length e)))
+
+-- ---- a turn of the loop that compares
+
+pub same-step : (x y : List ℕ) (i : ℕ) → i < length x → i < length y → getD x i 0 ≡ getD y i 0
+    → sameBytes (drop i x) (drop i y) ≡ sameBytes (drop (i + 1) x) (drop (i + 1) y)
+unfolding sameBytes
+same-step x y i h k e = rw (drop-cons x i 0 h, drop-cons y i 0 k, add-one, eq-eqb _ _ e)
+
+pub same-stop : (x y : List ℕ) (i : ℕ) → i < length x → i < length y → (getD x i 0 ≡ getD y i 0 → ⊥)
+    → sameBytes (drop i x) (drop i y) ≡ false
+unfolding sameBytes
+same-stop x y i h k e = rw (drop-cons x i 0 h, drop-cons y i 0 k, ne-eqb _ _ e)
+
+pub same-end : (x y : List ℕ) (i : ℕ) → length x ≤ i → length y ≤ i → sameBytes (drop i x) (drop i y) ≡ true
+unfolding sameBytes
+same-end x y i h k = rw (drop-of-length-le x {i = i} h, drop-of-length-le y {i = i} k)
+
+-- ---- a small value's bytes
+
+pub same-value : (v w : ℕ) → v < 67108864 → w < 67108864 → sameBytes (smallBytes v) (smallBytes w) ≡ eqb v w
+same-value v w h k =
+    decided (smallBytes v) (smallBytes w) (eqb v w) (λ e. ap smallBytes (eqb-true v w e)) λ e.
+    let f = bytes-fit v h in
+    let g = bytes-fit w k in
+    let p = ap fits e in
+    let q : v ≡ w = cc in
+    eq-eqb v w q
+
+-- bytes that fit are those of their value, and no others are those of a small value
+pub same-fits : (v w : ℕ) (l : List ℕ) → v < 67108864 → Octets l → fits l ≡ some w → sameBytes (smallBytes v) l ≡ eqb v w
+same-fits v w l h o e = rw (← (fits-bytes l w o e)) (same-value v w h (fits-value l w o e))
+
+pub same-unfit : (v : ℕ) (l : List ℕ) → v < 67108864 → fits l ≡ none → sameBytes (smallBytes v) l ≡ false
+same-unfit v l h e =
+    decided (smallBytes v) l false (λ k. absurd (false≢true k)) λ k.
+    let f = bytes-fit v h in
+    let p = ap fits k in
+    let z : _≡_ {A = ℕ} 0 1 = cc in absurd (omega arith)
+
+-- ---- atom_eq with an atom on the left
+
+pub eq-left : (bytes : List ℕ) (left right : ℕ) (x : Arg) (z : Atom) (y : Said Arg) → atomArg left (says x) ≡ says z
+    → eqArgs bytes left right (says x) y ≡ saysOf (λ w. sameBytes (atomBytes bytes z) (atomBytes bytes w)) (atomArg right y)
+eq-left bytes left right x z (refuses code node) h = refl
+eq-left bytes left right x z (says (pairArg i)) h = rw h
+eq-left bytes left right x z (says (bytesArg i start end)) h = rw h
+eq-left bytes left right x z (says (smallArg v)) h = rw h
+
+-- ---- what an atom that passed its tests has
+
+inside-at : (a : Allocator) (bytes : ℕ) (r : Said Atom) → a .used .bytes ≤ bytes → ((x : Atom) → r ≡ says x → AtomIn a x) → Inside bytes r
+inside-at a bytes (says (range start end)) h f = let p = f (range start end) refl in (p .0, omega (arith, p .1))
+inside-at a bytes (says (value v)) h f = f (value v) refl
+inside-at a bytes (refuses code node) h f = omega arith
+
+pub inside : (a : Allocator) (t : AtomSlots) (n bytes : ℕ) → a .used .bytes ≤ bytes → Inside bytes (atomOf a t n)
+inside a t n bytes h = inside-at a bytes (atomOf a t n) h (atom-in a t n)
+
+-- ---- what the part that atom hands back has, beside a byte store and a scratch of these lengths
+
+abbrev pub PartIn : ℕ → ℕ → Said Atom → Type 0
+PartIn bytes scratch (says (range start end)) = (start ≤ end) × (end ≤ bytes)
+PartIn bytes scratch (says (value v)) = (v < 67108864) × (scratch ≡ 4)
+PartIn bytes scratch (refuses code node) = 0 ≤ 0
+
+part-at : (bytes scratch : ℕ) (r : Said Atom) → Inside bytes r → PartIn bytes scratch (partOf scratch r)
+part-at bytes scratch (says (range start end)) h = h
+part-at bytes scratch (says (value v)) h =
+    need-ind (PartIn bytes scratch) (eqb scratch 4) 15 nil (says (value v)) (λ e. omega arith) (λ e. (h, eqb-true scratch 4 e))
+part-at bytes scratch (refuses code node) h = omega arith
+
+pub part-in : (a : Allocator) (s : Store) (n scratch : ℕ) → PartIn (length (s .bytes)) scratch (atom a s n scratch)
+unfolding atom
+part-in a s n scratch =
+    let len = length (s .bytes) in
+    need-ind (PartIn len scratch) (storeSound a s) 1 nil (partOf scratch (atomOf a (s .atoms) n)) (λ e. omega arith)
+    (λ e. part-at len scratch (atomOf a (s .atoms) n) (inside a (s .atoms) n len (store-lent a _ _ _ e .bytes-fit)))
+
+pub part-says : (a : Allocator) (s : Store) (n scratch : ℕ) (x : Atom) → atom a s n scratch ≡ says x → PartIn (length (s .bytes)) scratch (says x)
+part-says a s n scratch x h = subst (PartIn (length (s .bytes)) scratch) h (part-in a s n scratch)
+
+-- all four bytes of a scratch are written
+pub whole-scratch : (v : ℕ) (scratch : List ℕ) → length scratch ≡ 4 → be 4 v ++ drop 4 scratch ≡ be 4 v
+whole-scratch v scratch h = rw (drop-of-length-le scratch {i = 4} (omega arith), append-nil)
+
+-- a part up to the end of a slice, as the code takes it
+pub part-tail : (k : ℕ) (l : List ℕ) → take (length l - k) (drop k l) ≡ drop k l
+part-tail k l = take-all (length l - k) (drop k l) (simp length-drop (omega arith))
+
+-- the last bytes of a scratch that holds a small value are the value's
+last-bytes : (v : ℕ) → v < 67108864 → drop (4 - lenFor v) (be 4 v) ≡ smallBytes v
+last-bytes v h =
+    let l = small-length v h in
+    let e : 4 ≡ (4 - lenFor v) + lenFor v = omega arith in
+    ap (λ (k : ℕ). drop (4 - lenFor v) (be k v)) e ∙ be-low (lenFor v) (4 - lenFor v) v
+
+-- filling the scratch leaves its length, so that the second call answers as the first
+pub fill-length : (a : Allocator) (s : Store) (n : ℕ) (scratch : List ℕ) → length (scratchAfter (atom a s n (length scratch)) scratch) ≡ length scratch
+fill-length a s n scratch = at (atom a s n (length scratch)) (part-in a s n (length scratch))
+  where
+    at : (r : Said Atom) → PartIn (length (s .bytes)) (length scratch) r → length (scratchAfter r scratch) ≡ length scratch
+    at (says (range start end)) p = refl
+    at (says (value v)) p = length-be 4 v ∙ sym (p .1)
+    at (refuses code node) p = refl
+
+-- once the scratch is filled, the part holds the atom's bytes
+pub part-filled : (a : Allocator) (s : Store) (n len : ℕ) (x : Atom) (scratch : List ℕ) → atom a s n len ≡ says x
+    → partBytes (s .bytes) (scratchAfter (says x) scratch) (says x) ≡ atomBytes (s .bytes) x
+part-filled a s n len (range start end) scratch h = refl
+part-filled a s n len (value v) scratch h = last-bytes v (part-says a s n len (value v) h .0)
+
+-- the two calls one after the other are document 01's atom
+pub part-joined : (a : Allocator) (s : Store) (n : ℕ) (x : Atom) (scratch after : List ℕ)
+    → atom a s n (length scratch) ≡ says x → after ≡ scratchAfter (atom a s n (length scratch)) scratch
+    → partBytes (s .bytes) after (atom a s n (length after)) ≡ atomBytes (s .bytes) x
+part-joined a s n x scratch after h e =
+    let k : length after ≡ length scratch = ap length e ∙ fill-length a s n scratch in
+    rw (k, e, h) (part-filled a s n (length scratch) x scratch h)

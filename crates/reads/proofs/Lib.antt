@@ -1,0 +1,3 @@
+-- Laws about the reading calls.
+pub mod Laws
+pub mod Shows

@@ -1,0 +1,68 @@
+-- `reads::bytes_status` meets its contract. Assumes nothing.
+use Rattle.rules.specs.Said.{need}
+use borrow.Author.Tests.{lt-ltb, le-ltb}
+use borrow.Author.Needs.{needs}
+use Rattle.reads.proofs.bytes_status.Statement.{statement}
+use Rattle.reads.proofs.bytes_status.Tie as tie
+use Rattle.reads.proofs.bytes_status.Reads as reads
+use Rattle.reads.proofs.bytes_status.Lts as lts
+use Rattle.reads.proofs.arg.wide.Reads as wide-reads
+use Rattle.state.proofs.sound.range_sound.Reads as range-sound-reads
+
+returns : tie.Need-returns
+unfolding need
+returns c = simp (le-ltb _ _ (c .if1 .taken))
+
+returns-2 : tie.Need-returns-2
+unfolding need
+returns-2 c = simp (lt-ltb _ _ (c .before .before .if1 .left), lt-ltb _ _ (c .if2 .taken))
+
+mul-start : tie.Need-mul-start
+mul-start c = search needs
+
+shared-slice-read-start : tie.Need-shared-slice-read-start
+shared-slice-read-start c = search needs
+
+mul-end : tie.Need-mul-end
+mul-end c = search needs
+
+shared-slice-read-end : tie.Need-shared-slice-read-end
+shared-slice-read-end c = search needs
+
+range-sound-requires : tie.Need-range-sound-requires
+range-sound-requires c κs = search needs
+
+wide-requires : tie.Need-wide-requires
+wide-requires c κs = search needs
+
+wide-requires-2 : tie.Need-wide-requires-2
+wide-requires-2 c κs = search needs
+
+returns-3 : tie.Need-returns-3
+unfolding need
+returns-3 c = simp (c .wide2 .ensures, c .before .before .before .wide .ensures, lt-ltb _ _ (c .before .before .before .before .before .before .before .before .before .before .if1 .left), le-ltb _ _ (c .before .before .before .before .before .before .before .before .if2 .left), ← (c .before .before .before .before .before .range-sound .ensures), c .before .before .before .before .if3 .taken, lt-ltb _ _ (rw (c .before .before .before .wide .ensures) at (c .before .if4 .taken)))
+
+returns-4 : tie.Need-returns-4
+unfolding need
+returns-4 c = simp (lt-ltb _ _ (c .before .before .before .before .before .before .before .before .before .if1 .left), le-ltb _ _ (c .before .before .before .before .before .before .before .if2 .left), ← (c .before .before .before .before .range-sound .ensures), c .before .before .before .if3 .taken, le-ltb _ _ (rw (c .before .before .wide .ensures) at (c .if4 .left)))
+
+returns-5 : tie.Need-returns-5
+unfolding need
+returns-5 c = simp (lt-ltb _ _ (c .before .before .before .before .before .before .if1 .left), le-ltb _ _ (c .before .before .before .before .if2 .left), ← (c .before .range-sound .ensures), c .if3 .left)
+
+pub bytes-status-spec : {M : Type 1} → statement M
+bytes-status-spec =
+    tie.close
+    (tie.spec
+    returns
+    returns-2
+    mul-start
+    shared-slice-read-start
+    mul-end
+    shared-slice-read-end
+    range-sound-requires
+    wide-requires
+    wide-requires-2
+    returns-3
+    returns-4
+    returns-5)

@@ -1,0 +1,48 @@
+-- `reads::part::part_of` meets its contract. Assumes nothing.
+use Rattle.rules.proofs.Sound.{store-lent}
+use Rattle.rules.specs.Reads.{atom}
+use Rattle.rules.specs.Said.{need}
+use borrow.Author.Tests.{eq-eqb, ne-eqb}
+use native.Mathlib.Omega.{arith}
+use mathlib.Core.Path.{sym, _∙_}
+use borrow.Author.Needs.{needs}
+use Rattle.reads.proofs.part.part_of.Statement.{statement}
+use Rattle.reads.proofs.part.part_of.Tie as tie
+
+atom-of-requires : tie.Need-atom-of-requires
+atom-of-requires c κs = omega (arith, store-lent _ _ _ _ (sym (c .before .store-sound .ensures) ∙ c .if1 .taken))
+
+returns : tie.Need-returns
+unfolding atom need
+returns c = simp (← (c .before .before .before .atom-of .ensures), c .before .found .given .1, ← (c .before .before .before .before .before .store-sound .ensures), c .before .before .before .before .if1 .taken)
+
+returns-2 : tie.Need-returns-2
+unfolding atom need
+returns-2 c = simp (← (c .before .before .before .before .atom-of .ensures), c .before .before .found2 .given .1, ← (c .before .before .before .before .before .before .store-sound .ensures), c .before .before .before .before .before .if1 .taken, eq-eqb _ _ (c .if2 .taken))
+
+returns-3 : tie.Need-returns-3
+unfolding atom need
+returns-3 c = simp (← (c .before .before .before .before .atom-of .ensures), c .before .before .found2 .given .1, ← (c .before .before .before .before .before .before .store-sound .ensures), c .before .before .before .before .before .if1 .taken, ne-eqb _ _ (c .if2 .left))
+
+returns-4 : tie.Need-returns-4
+unfolding atom need
+returns-4 c = simp (← (c .before .before .before .atom-of .ensures), c .before .found3 .given .1, ← (c .before .before .before .before .before .store-sound .ensures), c .before .before .before .before .if1 .taken)
+
+returns-5 : tie.Need-returns-5
+unfolding atom need
+returns-5 c = simp (← (c .before .store-sound .ensures), c .if1 .left)
+
+pub part-of-spec : {M : Type 1} → statement M
+part-of-spec =
+    tie.close
+    (tie.spec
+    (λ c κs. search needs)
+    atom-of-requires
+    (λ c. search needs)
+    returns
+    (λ c. search needs)
+    returns-2
+    returns-3
+    (λ c. search needs)
+    returns-4
+    returns-5)

@@ -1,0 +1,87 @@
+// atom: the bytes of an atom, as a part of the byte store or of a scratch of four bytes. Two calls with the same arguments: the first
+// writes a small atom's value into the scratch and tells the code, the second hands back the part.
+use rules::Allocator;
+use rules::Code;
+use rules::Verdict;
+use state::sound;
+ghost use mathlib.Core.Path.{_≡_};
+ghost use lib.ListN.{length};
+ghost use Rattle.rules.specs.Said.{done, saysOf};
+ghost use Rattle.rules.specs.State.{store, atomSlots};
+ghost use Rattle.rules.specs.Reads.{atom as atomRule, scratchAfter, partBytes};
+ghost use Rattle.rules.specs.Paper.{atomPaper, verdictPaper};
+ghost use Rattle.reads.specs.Parts.{blockOf, offsetOf};
+
+// Where an atom's bytes are to be found, beside a scratch of this length.
+fn part_of(
+    a: Allocator,
+    bytes: &[u8],
+    starts: &[u32],
+    ends: &[u32],
+    n: u32,
+    scratch: usize,
+) -> rules::Atom
+    ensures { λ r. ⌜ atomPaper r ≡ atomRule a (store (now (bytes .entry)) (atomSlots (now (starts .entry)) (now (ends .entry)))) n scratch ⌝ }
+{
+    if sound::store_sound(a, bytes.len(), starts.len(), ends.len()) {
+        let found = super::arg::atom_of(a, starts, ends, n);
+        match found {
+            rules::Atom::Range(start, end) => return rules::Atom::Range(start, end),
+            rules::Atom::Value(v) => {
+                if scratch == 4 {
+                    return rules::Atom::Value(v);
+                }
+                return rules::Atom::Refused(Code::Full, node::NIL);
+            }
+            rules::Atom::Refused(code, node) => return rules::Atom::Refused(code, node),
+        }
+    }
+    rules::Atom::Refused(Code::Unsound, node::NIL)
+}
+
+// Writes a small atom's value into the scratch; else the scratch is left as it was.
+pub fn fill(
+    a: Allocator,
+    bytes: &[u8],
+    starts: &[u32],
+    ends: &[u32],
+    scratch: &mut [u8],
+    n: u32,
+) -> Verdict
+    ensures { λ r. ⌜ verdictPaper r ≡ saysOf (λ x. done) (atomRule a (store (now (bytes .entry)) (atomSlots (now (starts .entry)) (now (ends .entry)))) n (length (now (scratch .entry)))) ⌝ }
+    ensures { λ _. ⌜ now (scratch .exit) ≡ scratchAfter (atomRule a (store (now (bytes .entry)) (atomSlots (now (starts .entry)) (now (ends .entry)))) n (length (now (scratch .entry)))) (now (scratch .entry)) ⌝ }
+{
+    let part = part_of(a, bytes, starts, ends, n, scratch.len());
+    match part {
+        rules::Atom::Range(_, _) => Verdict::Done,
+        rules::Atom::Value(v) => {
+            node::put_be(scratch, v as u64, 4);
+            Verdict::Done
+        }
+        rules::Atom::Refused(code, node) => Verdict::Refused(code, node),
+    }
+}
+
+// The part that holds an atom's bytes, once the scratch is filled; an empty one where the first call refuses.
+pub fn atom<'a>(
+    a: Allocator,
+    bytes: &'a [u8],
+    starts: &[u32],
+    ends: &[u32],
+    scratch: &'a [u8],
+    n: u32,
+) -> &'a [u8]
+    ensures { λ r. ⌜ now r ≡ partBytes (now (bytes .entry)) (now (scratch .entry)) (atomRule a (store (now (bytes .entry)) (atomSlots (now (starts .entry)) (now (ends .entry)))) n (length (now (scratch .entry)))) ⌝ }
+    ensures { λ r. ⌜ r .ptr .0 ≡ blockOf (bytes .entry .ptr .0) (scratch .entry .ptr .0) (atomRule a (store (now (bytes .entry)) (atomSlots (now (starts .entry)) (now (ends .entry)))) n (length (now (scratch .entry)))) ⌝ }
+    ensures { λ r. ⌜ r .ptr .1 ≡ offsetOf (bytes .entry .ptr .1) (scratch .entry .ptr .1) (atomRule a (store (now (bytes .entry)) (atomSlots (now (starts .entry)) (now (ends .entry)))) n (length (now (scratch .entry)))) ⌝ }
+{
+    let part = part_of(a, bytes, starts, ends, n, scratch.len());
+    match part {
+        rules::Atom::Range(start, end) => return &bytes[start..end],
+        rules::Atom::Value(v) => {
+            let from = 4 - node::len_for_value(v);
+            return &scratch[from..];
+        }
+        rules::Atom::Refused(_, _) => return &bytes[0..0],
+    }
+}

@@ -1,0 +1,63 @@
+-- `restores::course::course_of` meets its contract: the tests in document 01's order. Assumes nothing.
+use Rattle.runs.proofs.Tests.{usable→}
+use Rattle.rules.proofs.Sound.{lists-lent}
+use Rattle.rules.proofs.Tests.{both}
+use Rattle.rules.specs.Restores.{course, savings}
+use Rattle.rules.specs.State.{atomSlots, pairSlots}
+use Rattle.rules.specs.Said.{need}
+use borrow.Author.Tests.{lt-ltb, le-ltb}
+use native.Mathlib.Omega.{arith}
+use mathlib.Core.Path.{sym, _∙_}
+use borrow.Author.Needs.{needs}
+use Rattle.restores.proofs.course.course_of.Statement.{statement}
+use Rattle.restores.proofs.course.course_of.Tie as tie
+use Rattle.restores.proofs.course.course_of.Reads as reads
+use Rattle.restores.proofs.course.course_of.Lts as lts
+use Rattle.restores.proofs.course.node_course.Reads as node-course-reads
+use Rattle.restores.proofs.course.savings.Reads as savings-reads
+use Rattle.restores.proofs.course.usable.Reads as usable-reads
+use Rattle.state.proofs.sound.lists_sound.Reads as lists-sound-reads
+
+lists-sound-requires : tie.Need-lists-sound-requires
+lists-sound-requires c κs = search needs
+
+usable-requires : tie.Need-usable-requires
+usable-requires c κs = omega (arith, lists-lent _ _ _ _ _ _ (sym (c .before .lists-sound .ensures) ∙ c .if1 .taken))
+
+savings-requires : tie.Need-savings-requires
+savings-requires c κs =
+    let s = c .before .before .before .before .before .before .before .before .before .args in
+    let u = usable→ (s .k) (s .a) (atomSlots (s .starts .now) (s .ends .now)) (pairSlots (s .firsts .now) (s .rests .now)) (sym (c .before .usable .ensures) ∙ c .if2 .taken) in
+    (lists-lent _ _ _ _ _ _ (sym (c .before .before .before .lists-sound .ensures) ∙ c .before .before .if1 .taken) .slots .atoms .limits, (u .bytes, u .atoms, u .pairs))
+
+returns : tie.Need-returns
+unfolding course need
+returns c = simp (← (c .before .before .before .before .before .lists-sound .ensures), c .before .before .before .before .if1 .taken, ← (c .before .before .before .usable .ensures), c .before .before .if2 .taken, lt-ltb _ _ (rw (c .before .savings .ensures) at (c .if3 .taken)))
+
+node-course-requires : tie.Need-node-course-requires
+node-course-requires c κs = both _ _ (sym (c .before .before .before .before .before .lists-sound .ensures) ∙ c .before .before .before .before .if1 .taken) .0
+
+returns-2 : tie.Need-returns-2
+unfolding course need
+returns-2 c = simp (← (c .before .before .before .before .before .before .lists-sound .ensures), c .before .before .before .before .before .if1 .taken, ← (c .before .before .before .before .usable .ensures), c .before .before .before .if2 .taken, le-ltb _ _ (rw (c .before .before .savings .ensures) at (c .before .if3 .left)), c .node-course .ensures)
+
+returns-3 : tie.Need-returns-3
+unfolding course need
+returns-3 c = simp (← (c .before .before .before .lists-sound .ensures), c .before .before .if1 .taken, ← (c .before .usable .ensures), c .if2 .left)
+
+returns-4 : tie.Need-returns-4
+unfolding course need
+returns-4 c = simp (← (c .before .lists-sound .ensures), c .if1 .left)
+
+pub course-of-spec : {M : Type 1} → statement M
+course-of-spec =
+    tie.close
+    (tie.spec
+    lists-sound-requires
+    usable-requires
+    savings-requires
+    returns
+    node-course-requires
+    returns-2
+    returns-3
+    returns-4)

@@ -1,0 +1,24 @@
+-- A call's tests, one by one: what its refusals leave is the state as it was. Assumes nothing.
+use Prim.Native.Nat.{ℕ}
+use mathlib.Core.Path.{_≡_, refl}
+use mathlib.Core.Bool.{Bool, true, false}
+use Rattle.rules.specs.declared.Allocator.{Allocator}
+use Rattle.rules.specs.Said.{Said, says, refuses, need, NoLists, noLists, Out, refused, settle}
+use Rattle.rules.specs.State.{Store, PairSlots}
+use Rattle.rules.proofs.Needs.{need-ind}
+use Rattle.runs.specs.State.{St, Whole, storeOf, alone, onPairs, onStore}
+use Rattle.runs.specs.Makes as M
+use Rattle.runs.specs.Makes.{Outcome}
+
+module _ {A B : Type 0} {s : St} {P : B → St → Type 0} (b : Bool) (code node : ℕ) (next : Said A) where
+  pub guard : (f : A → Out B Store) → (b ≡ true → Outcome s P (onStore s (settle next (s .rec) (storeOf s) f)))
+      → Outcome s P (onStore s (settle (need b code node next) (s .rec) (storeOf s) f))
+  guard f g = need-ind (λ r. Outcome s P (onStore s (settle r (s .rec) (storeOf s) f))) b code node next (λ t. M.refused code node) g
+
+  pub guard-pairs : (f : A → Out B PairSlots) → (b ≡ true → Outcome s P (onPairs s (settle next (s .rec) (s .lists .pairs) f)))
+      → Outcome s P (onPairs s (settle (need b code node next) (s .rec) (s .lists .pairs) f))
+  guard-pairs f g = need-ind (λ r. Outcome s P (onPairs s (settle r (s .rec) (s .lists .pairs) f))) b code node next (λ t. M.refused code node) g
+
+  pub guard-alone : (f : A → Out B NoLists) → (b ≡ true → Outcome s P (alone s (settle next (s .rec) noLists f)))
+      → Outcome s P (alone s (settle (need b code node next) (s .rec) noLists f))
+  guard-alone f g = need-ind (λ r. Outcome s P (alone s (settle r (s .rec) noLists f))) b code node next (λ t. M.refused code node) g

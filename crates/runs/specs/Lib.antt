@@ -1,0 +1,7 @@
+-- Whole states, and what is proved of the rules over them.
+pub mod State
+pub mod Wf
+pub mod Makes
+pub mod ByCalls
+pub mod Back
+pub mod Runs

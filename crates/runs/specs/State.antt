@@ -1,0 +1,152 @@
+-- A whole state, the record beside all five lists, and each call of document 01 upon it.
+-- The rules know only the lists that a call is lent; here those that it is not lent stay as they are.
+use Prim.Native.Nat.{ℕ, _<_}
+use mathlib.Core.List.{List}
+use mathlib.Core.Option.{Option, none, some}
+use lib.IntN.{ℤ}
+use lib.Signed.{mag}
+use Rattle.rules.specs.declared.Counts.{Counts}
+use Rattle.rules.specs.declared.Allocator.{Allocator}
+use Rattle.rules.specs.declared.Checkpoint.{Checkpoint}
+use Rattle.rules.specs.Small.{Octets}
+use Rattle.rules.specs.Said.{Said, saysOf, Done, done, NoLists, Out}
+use Rattle.rules.specs.State.{Lists, lists, Store, store, PairSlots}
+use Rattle.rules.specs.Reads.{checkpointOf}
+use Rattle.rules.specs.Creates as C
+use Rattle.rules.specs.Restores as R
+use Rattle.rules.specs.Restores.{Restoring, noReplace}
+
+pub record St : Type 0 where
+  pub rec : Allocator
+  pub lists : Lists
+
+-- what a call says, and the state that it leaves
+pub record Whole (A : Type 0) : Type 0 where
+  pub said : Said A
+  pub next : St
+
+-- ---- from what a call is lent to all that there is
+
+abbrev pub storeOf : St → Store
+storeOf s = store (s .lists .bytes) (s .lists .atoms)
+
+-- a call that may write no list
+abbrev pub alone : {A : Type 0} → St → Out A NoLists → Whole A
+alone s o = record { said = o .said; next = record { rec = o .rec; lists = s .lists } }
+
+-- a call that may write the pair slots
+abbrev pub onPairs : {A : Type 0} → St → Out A PairSlots → Whole A
+onPairs s o = record {
+  said = o .said;
+  next = record { rec = o .rec; lists = lists (s .lists .bytes) (s .lists .atoms) (o .lent) };
+}
+
+-- a call that may write the bytes and the atom slots
+abbrev pub onStore : {A : Type 0} → St → Out A Store → Whole A
+onStore s o = record {
+  said = o .said;
+  next = record { rec = o .rec; lists = lists (o .lent .bytes) (o .lent .atoms) (s .lists .pairs) };
+}
+
+-- ---- the calls that count
+
+abbrev pub newAtom : List ℕ → St → Whole ℕ
+newAtom v s = onStore s (C.newAtom (s .rec) v (storeOf s))
+
+abbrev pub newSmallNumber : ℕ → St → Whole ℕ
+newSmallNumber v s = alone s (C.newSmallNumber (s .rec) v)
+
+abbrev pub newU64 : ℕ → St → Whole ℕ
+newU64 x s = onStore s (C.newU64 (s .rec) x (storeOf s))
+
+abbrev pub newI64 : ℤ → St → Whole ℕ
+newI64 z s = onStore s (C.newI64 (s .rec) z (storeOf s))
+
+abbrev pub newPair : ℕ → ℕ → St → Whole ℕ
+newPair first rest s = onPairs s (C.newPair (s .rec) first rest (s .lists .pairs))
+
+abbrev pub newSubstr : ℕ → ℕ → ℕ → St → Whole ℕ
+newSubstr n start end s = onStore s (C.newSubstr (s .rec) n start end (storeOf s))
+
+abbrev pub newConcat : ℕ → List ℕ → St → Whole ℕ
+newConcat size ns s = onStore s (C.newConcat (s .rec) size ns (storeOf s))
+
+abbrev pub addGhostPair : ℕ → St → Whole Done
+addGhostPair amount s = alone s (C.addGhostPair (s .rec) amount)
+
+abbrev pub removeGhostPair : ℕ → St → Whole Done
+removeGhostPair amount s = alone s (C.removeGhostPair (s .rec) amount)
+
+abbrev pub addGhostAtom : ℕ → St → Whole Done
+addGhostAtom amount s = alone s (C.addGhostAtom (s .rec) amount)
+
+-- one call of these, with its arguments as their types in the code have them
+pub data Making : Type 0 where
+  atom : (v : List ℕ) → Octets v → Making
+  small-number : ℕ → Making
+  u64 : (x : ℕ) → x < 18446744073709551616 → Making
+  i64 : (z : ℤ) → mag z < 9223372036854775808 → Making
+  pair : (first rest : ℕ) → Making
+  substr : (n start end : ℕ) → Making
+  concat : (size : ℕ) → List ℕ → Making
+  ghost-pairs : ℕ → Making
+  fewer-ghost-pairs : ℕ → Making
+  ghost-atoms : ℕ → Making
+
+-- the node that it makes; a ghost call makes none
+abbrev pub noded : Whole ℕ → Whole (Option ℕ)
+noded o = record { said = saysOf some (o .said); next = o .next }
+
+abbrev pub ghostly : Whole Done → Whole (Option ℕ)
+ghostly o = record { said = saysOf (λ d. none) (o .said); next = o .next }
+
+abbrev pub call : Making → St → Whole (Option ℕ)
+call (atom v o) s = noded (newAtom v s)
+call (small-number v) s = noded (newSmallNumber v s)
+call (u64 x h) s = noded (newU64 x s)
+call (i64 z h) s = noded (newI64 z s)
+call (pair first rest) s = noded (newPair first rest s)
+call (substr n start end) s = noded (newSubstr n start end s)
+call (concat size ns) s = noded (newConcat size ns s)
+call (ghost-pairs amount) s = ghostly (addGhostPair amount s)
+call (fewer-ghost-pairs amount) s = ghostly (removeGhostPair amount s)
+call (ghost-atoms amount) s = ghostly (addGhostAtom amount s)
+
+-- the state that it leaves
+abbrev pub make : Making → St → St
+make m s = call m s .next
+
+-- ---- the three restores, to any checkpoint
+
+abbrev pub plainTo : Checkpoint → St → Whole Done
+plainTo k s = alone s (R.restorePlain k (s .rec) (s .lists .atoms) (s .lists .pairs))
+
+abbrev pub transparentTo : Counts → St → Whole Done
+transparentTo k s = alone s (R.restoreTransparent k (s .rec) (s .lists .atoms) (s .lists .pairs))
+
+abbrev pub maybeTo : Counts → ℕ → St → Whole Restoring
+maybeTo k n s = onStore s (R.maybeRestore k n (s .rec) (storeOf s) (s .lists .pairs))
+
+-- to the one that was taken in the state k, and has not been altered since
+abbrev pub plain : St → St → Whole Done
+plain k s = plainTo (checkpointOf (k .rec)) s
+
+abbrev pub transparent : St → St → Whole Done
+transparent k s = transparentTo (k .rec .used) s
+
+abbrev pub maybe : St → ℕ → St → Whole Restoring
+maybe k n s = maybeTo (k .rec .used) n s
+
+pub data Way : Type 0 where
+  plainly : Way
+  transparently : Way
+  withNode : ℕ → Way
+
+-- an accepted plain or transparent restore has no node to replace
+abbrev pub nodeless : Whole Done → Whole Restoring
+nodeless o = record { said = saysOf (λ d. noReplace) (o .said); next = o .next }
+
+abbrev pub restore : Way → St → St → Whole Restoring
+restore plainly k s = nodeless (plain k s)
+restore transparently k s = nodeless (transparent k s)
+restore (withNode n) k s = maybe k n s

@@ -1,0 +1,26 @@
+-- `state::atom_count` meets its contract. Assumes nothing.
+use Rattle.state.proofs.Laws.{count-uncapped}
+use Rattle.rules.proofs.Limits.{Limits}
+use Rattle.rules.specs.State.{atoms}
+use native.Mathlib.Omega.{arith}
+use mathlib.Core.Path.{_∙_}
+use Prim.Native.Nat.{_≤_}
+use borrow.Author.Needs.{needs}
+use Rattle.state.proofs.atom_count.Statement.{statement}
+use Rattle.state.proofs.atom_count.Tie as tie
+use Rattle.state.proofs.atom_count.Reads as reads
+use Rattle.state.proofs.atom_count.Lts as lts
+use Rattle.state.proofs.counted.Reads as counted-reads
+use Rattle.state.proofs.sound.total.Reads as total-reads
+
+total-requires : tie.Need-total-requires
+total-requires c κs = search needs
+
+counted-requires : tie.Need-counted-requires
+counted-requires c κs = search needs
+
+returns : tie.Need-returns
+returns c = simp (c .counted .ensures, c .before .total .ensures) (count-uncapped (c .before .before .args .a) (atoms (c .before .before .args .a)) λ l. omega arith)
+
+pub atom-count-spec : {M : Type 1} → statement M
+atom-count-spec = tie.close (tie.spec total-requires counted-requires returns)

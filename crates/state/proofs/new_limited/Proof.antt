@@ -1,0 +1,27 @@
+-- `state::new_limited` meets its contract. Assumes nothing.
+use Rattle.rules.specs.Creates.{newLimited}
+use Rattle.rules.specs.Said.{need}
+use borrow.Author.Tests.{le-leb, lt-leb}
+use borrow.Author.Needs.{needs}
+use Rattle.state.proofs.new_limited.Statement.{statement}
+use Rattle.state.proofs.new_limited.Tie as tie
+use Rattle.state.proofs.new_limited.Reads as reads
+use Rattle.state.proofs.new_limited.Lts as lts
+use Rattle.state.proofs.record.fresh.Reads as fresh-reads
+
+fresh-requires : tie.Need-fresh-requires
+fresh-requires c κs = search needs
+
+returns : tie.Need-returns
+unfolding newLimited need
+returns c = simp (c .fresh .ensures, le-leb _ _ (c .before .if1 .taken))
+
+fresh-requires-2 : tie.Need-fresh-requires-2
+fresh-requires-2 c κs = search needs
+
+returns-2 : tie.Need-returns-2
+unfolding newLimited need
+returns-2 c = simp (c .fresh2 .ensures, lt-leb _ _ (c .before .if1 .left))
+
+pub new-limited-spec : {M : Type 1} → statement M
+new-limited-spec = tie.close (tie.spec fresh-requires returns fresh-requires-2 returns-2)

@@ -1,0 +1,19 @@
+-- `state::sound::store_sound` meets its contract. Assumes nothing.
+use borrow.Author.Needs.{needs}
+use Rattle.state.proofs.sound.store_sound.Statement.{statement}
+use Rattle.state.proofs.sound.store_sound.Tie as tie
+use Rattle.state.proofs.sound.store_sound.Reads as reads
+use Rattle.state.proofs.sound.store_sound.Lts as lts
+use Rattle.state.proofs.sound.atoms_sound.Reads as atoms-sound-reads
+
+atoms-sound-requires : tie.Need-atoms-sound-requires
+atoms-sound-requires c κs = search needs
+
+returns : tie.Need-returns
+returns c = simp (← (c .before .before .atoms-sound .ensures), c .before .if1 .taken)
+
+returns-2 : tie.Need-returns-2
+returns-2 c = simp (← (c .before .atoms-sound .ensures), c .if1 .left)
+
+pub store-sound-spec : {M : Type 1} → statement M
+store-sound-spec = tie.close (tie.spec atoms-sound-requires returns returns-2)
