@@ -1,8 +1,8 @@
 -- What never arises, on every input: where a restore gives a node a new slot or clones its bytes, the ghosts, the slots and the bytes suffice.
 -- Assumes nothing.
-use Prim.Native.Nat.{ℕ, zero, suc, _+_, _-_, _*_, _≤_, _<_}
+use Prim.Native.Nat.{ℕ, _+_, _-_, _≤_, _<_}
 use mathlib.Core.Path.{_≡_, refl, ap}
-use mathlib.Core.Bool.{Bool, true, false, cond}
+use mathlib.Core.Bool.{true}
 use mathlib.Core.List.{List}
 use mathlib.Core.Option.{Option, none, some}
 use native.Mathlib.Nat.{le-trans}
@@ -18,9 +18,9 @@ use Rattle.rules.specs.Said.{Said, says, refuses, need, Out, out}
 use Rattle.rules.specs.State.{Lists, Store, store, startAt, endAt, atoms, heap, storeSound, ghostAtom, usedAtom, cut, lessGhosts}
 use Rattle.rules.specs.Creates.{heapHolds, atomsLeft, storeRoom, putAtom, storeAtom, atomTests, atomPut, newAtom}
 use Rattle.rules.specs.Restores.{Course, abort, keep, share, copy, course}
-use Rattle.runs.specs.Wf.{Sound, SlotOk}
+use Rattle.runs.specs.Wf.{Sound}
 use Rattle.runs.specs.Back.{Shares, Copies}
-use Rattle.runs.proofs.Tests.{→store, Holds, →holds, Usable}
+use Rattle.runs.proofs.Tests.{→store, Holds, →holds}
 use Rattle.runs.proofs.Courses.{Open, LaterSlot, CourseIs, unsound, unusable, little, invalid, bad-slot, early, later-pair, shared, astride, too-long, over-limit, copied, course-is}
 
 -- what new_atom gives when its tests pass and the store has room
@@ -113,7 +113,7 @@ module _ {k : Counts} {n : ℕ} {a : Allocator} {l : Lists} where
   suffices (over-limit i o h p q g) = tt
   suffices (copied i o h p q g) = clone-copies o h p g
 
--- the two that the calls above ask for
+-- whatever the record, the checkpoint, the node and the lists
 pub never-short-of-a-slot : (k : Counts) (n : ℕ) (a : Allocator) (l : Lists) (start end : ℕ) → course k n a l ≡ says (share start end) → Shares k a l
 never-short-of-a-slot k n a l start end e = rw e at (suffices (course-is k n a l))
 

@@ -1,35 +1,33 @@
 -- In a well-formed state a valid node reads, by the calls, as its tree and as no other. Assumes nothing.
 use Prim.Native.Nat.{ℕ, zero, suc, _+_, _-_, _≤_, _<_}
 use mathlib.Core.Path.{_≡_, refl, sym, _∙_, ap, ap₂, subst}
-use mathlib.Core.Bool.{true}
-use mathlib.Core.List.{List, [], _∷_}
+use mathlib.Core.List.{List}
 use native.Mathlib.Nat.{le-refl}
 use native.Mathlib.Omega.{arith}
 use borrow.Author.Tests.{lt-ltb, ltb-true}
-use lib.Dec.{ltb, eqb}
 use lib.ListN.{length, drop, replicate}
-use lib.Seq.{slice}
-use Rattle.rules.specs.Node.{Node, pairAt, bytesAt, small, bad, view, nil}
+use Rattle.rules.specs.Node.{Node, pairAt, bytesAt, small, bad, view}
 use Rattle.rules.specs.Small.{be, lenFor, smallBytes}
-use Rattle.rules.specs.Said.{Said, says, refuses, need}
-use Rattle.rules.specs.State.{startAt, endAt, firstAt, restAt, pairsSound, storeSound, atomSlotSound, pairSlotSound}
+use Rattle.rules.specs.Said.{Said, says, need}
+use Rattle.rules.specs.State.{startAt, endAt, firstAt, restAt}
 use Rattle.rules.specs.Reads as R
-use Rattle.rules.specs.Reads.{Atom, range, value, argOf, atomOf, atomArg, atomBytes, partOf, partBytes, scratchAfter, childrenOf, Sexp, atomic, branch, sexpOf, sexp}
+use Rattle.rules.specs.Reads.{Atom, range, value, argOf, partOf, partBytes, scratchAfter, childrenOf, branch, sexpOf, sexp}
 use Rattle.rules.specs.Tree.{Tree, leaf, fork, tree}
 use Rattle.rules.proofs.Needs.{passed}
 use Rattle.rules.proofs.Smalls.{be-low, small-length}
-use Rattle.runs.specs.State.{St, storeOf}
+use Rattle.rules.proofs.Trees.{tree-bytes, tree-small}
+use Rattle.runs.specs.State.{St}
 use Rattle.runs.specs.Wf.{Valid, ValidIn, WF, On}
 use Rattle.runs.specs.ByCalls.{ReadsAs, atom-reads, pair-reads}
 use Rattle.runs.proofs.Tests.{valid-mono, →pairs, →store, →slot, →pair}
-use Rattle.runs.proofs.Reading.{small-bits, tree-same, tree-bytes, tree-small, tree-pair}
-use Rattle.runs.proofs.Atoms.{AtomIs, no-atom, in-store, itself, atom-is, Found, found}
+use Rattle.runs.proofs.Reading.{small-bits, tree-same, tree-pair}
+use Rattle.runs.proofs.Atoms.{AtomIs, no-atom, in-store, itself, atom-is}
 
 module _ {s : St} (w : WF s) where
   -- the part that atom hands back holds what the node shows
   part-shows : {n : ℕ} {r : Said Atom} (scratch : List ℕ) (x : Atom) → AtomIs (s .rec) (s .lists .atoms) n r → partOf (length scratch) r ≡ says x
       → leaf (partBytes (s .lists .bytes) (scratchAfter (says x) scratch) (says x)) ≡ tree (s .lists) n
-  part-shows scratch x (no-atom code node) h = let z : _≡_ {A = ℕ} 0 1 = cc in absurd (omega arith)
+  part-shows scratch x (no-atom code node c) h = let z : _≡_ {A = ℕ} 0 1 = cc in absurd (omega arith)
   part-shows {n} scratch x (in-store i e l ok) h =
       let q : range (startAt (s .lists .atoms) i) (endAt (s .lists .atoms) i) ≡ x = cc in
       subst (λ (y : Atom). leaf (partBytes (s .lists .bytes) (scratchAfter (says y) scratch) (says y)) ≡ tree (s .lists) n) q (sym (tree-bytes (s .lists) n i e))
@@ -63,7 +61,7 @@ module _ {s : St} (w : WF s) where
   reads-only {n} (atom-reads scratch x h) = part-shows scratch x (atom-is (s .rec) (s .lists .atoms) n) (passed _ _ _ _ _ h .1)
   reads-only {n} (pair-reads first rest h p q) = ap₂ fork (reads-only p) (reads-only q) ∙ sexp-shows n first rest h
 
-  -- that one
+  -- and it does read as that one
   there : {n : ℕ} {t : Tree} → ReadsAs s n t → ReadsAs s n (tree (s .lists) n)
   there {n} r = subst (ReadsAs s n) (reads-only r) r
 
@@ -100,7 +98,10 @@ module _ {s : St} (w : WF s) where
   pub reads-tree : (n : ℕ) → ValidIn s n → ReadsAs s n (tree (s .lists) n)
   reads-tree n v = below (s .rec .used .pairs) n (le-refl _) (view n) refl v
 
+-- nodes that show the same tree read alike
+pub reads-alike : {s s′ : St} → WF s → WF s′ → (n m : ℕ) → ValidIn s′ m → tree (s′ .lists) m ≡ tree (s .lists) n → (t : Tree) → ReadsAs s n t → ReadsAs s′ m t
+reads-alike {s′ = s′} w w′ n m v e t r = subst (ReadsAs s′ m) (e ∙ sym (reads-only w r)) (reads-tree w′ m v)
+
 -- a node valid in k reads in a state that extends k as it read in k
 pub reads-same : {k s : St} → WF k → On k s → (n : ℕ) (t : Tree) → ValidIn k n → ReadsAs k n t → ReadsAs s n t
-reads-same {k} {s} w o n t v r = subst (ReadsAs s n) (tree-same (w .shape) (o .ext .same) n v ∙ sym (reads-only w r))
-    (reads-tree (o .wf) n (valid-mono (view n) (o .ext .atoms) (o .ext .pairs) v))
+reads-same w o n t v r = reads-alike w (o .wf) n n (valid-mono (view n) (o .ext .atoms) (o .ext .pairs) v) (tree-same (w .shape) (o .ext .same) n v) t r

@@ -1,13 +1,20 @@
--- In the words of the public check: it says yes of a fresh allocator, and every call, accepted or refused, keeps its yes. Assumes nothing.
-use Prim.Native.Nat.{ℕ}
+-- In the words of the public check: it says yes of what new_limited gives, beside any lists, and every call keeps its yes. Assumes nothing.
+use Prim.Native.Nat.{ℕ, _≤_}
 use mathlib.Core.Path.{_≡_}
 use mathlib.Core.Bool.{true}
+use native.Mathlib.Omega.{arith}
+use borrow.Author.Tests.{leb-true}
+use lib.Dec.{leb}
 use Rattle.rules.specs.declared.Counts.{Counts}
 use Rattle.rules.specs.declared.Checkpoint.{Checkpoint}
+use Rattle.rules.specs.Node.{nil}
 use Rattle.rules.specs.Small.{Octets}
-use Rattle.rules.specs.State.{wellFormed}
+use Rattle.rules.specs.Said.{says, done, noLists, out, settle}
+use Rattle.rules.specs.State.{Lists, atoms, pairs, heap, wellFormed}
+use Rattle.rules.specs.Creates.{fresh, newLimited}
+use Rattle.rules.proofs.Needs.{need-ind}
 use Rattle.runs.specs.State.{St, Whole, Making, make, plainTo, transparentTo, maybeTo}
-use Rattle.runs.specs.Wf.{WF}
+use Rattle.runs.specs.Wf.{Sound, Shape, WF}
 use Rattle.runs.specs.Makes.{Outcome, refused, accepted}
 use Rattle.runs.proofs.Tests.{well-formed}
 use Rattle.runs.proofs.Every.{make-on}
@@ -22,6 +29,32 @@ checked-wf s o h = let p = well-formed s .0 h in record { sound = p .0; shape = 
 
 pub wf-checked : (s : St) → WF s → Checked s
 wf-checked s w = well-formed s .1 (w .sound, w .shape)
+
+-- ---- new_limited, beside any lists
+
+fresh-at : (limit : ℕ) (l : Lists) → limit ≤ 4294967295 → Sound (fresh limit) l × Shape (record { rec = fresh limit; lists = l })
+fresh-at limit l h = (omega arith, record { slot = λ i b. absurd (omega arith); pair = λ i b. absurd (omega arith) })
+
+fresh-formed : (limit : ℕ) (l : Lists) → Sound (newLimited limit .rec) l × Shape (record { rec = newLimited limit .rec; lists = l })
+unfolding newLimited
+fresh-formed limit l = need-ind
+    (λ r. let a = settle r (fresh 0) noLists (λ d. out done (fresh limit) noLists) .rec in Sound a l × Shape (record { rec = a; lists = l }))
+    (leb limit 4294967295) 1 nil (says done) (λ t. fresh-at 0 l (omega arith)) (λ t. fresh-at limit l (leb-true _ _ t))
+
+pub fresh-checked : (limit : ℕ) (l : Lists) → Checked (record { rec = newLimited limit .rec; lists = l })
+fresh-checked limit l = well-formed (record { rec = newLimited limit .rec; lists = l }) .1 (fresh-formed limit l)
+
+-- its totals are 2, 0 and 1
+pub fresh-totals : (limit : ℕ) → (atoms (newLimited limit .rec) ≡ 2) × (pairs (newLimited limit .rec) ≡ 0) × (heap (newLimited limit .rec) ≡ 1)
+unfolding newLimited
+fresh-totals limit = need-ind
+    (λ r. let a = settle r (fresh 0) noLists (λ d. out done (fresh limit) noLists) .rec in (atoms a ≡ 2) × (pairs a ≡ 0) × (heap a ≡ 1))
+    (leb limit 4294967295) 1 nil (says done) (λ t. omega arith) (λ t. omega arith)
+
+pub fresh-wf : (limit : ℕ) (l : Lists) → Octets (l .bytes) → WF (record { rec = newLimited limit .rec; lists = l })
+fresh-wf limit l o = checked-wf (record { rec = newLimited limit .rec; lists = l }) o (fresh-checked limit l)
+
+-- ---- the calls that change something
 
 kept : {A : Type 0} {s : St} {P : A → St → Type 0} {o : Whole A} → ((x : A) (s′ : St) → P x s′ → WF s′) → WF s → Outcome s P o → WF (o .next)
 kept f w (refused code node) = w

@@ -1,17 +1,17 @@
 -- maybe_restore_with_node on every input: which course it takes, and when. Assumes nothing.
-use Prim.Native.Nat.{ℕ, zero, suc, _+_, _-_, _*_, _≤_, _<_}
-use mathlib.Core.Path.{_≡_, refl, sym, _∙_}
-use mathlib.Core.Bool.{Bool, true, false, cond}
+use Prim.Native.Nat.{ℕ, _-_, _≤_, _<_}
+use mathlib.Core.Path.{_≡_, refl}
+use mathlib.Core.Bool.{true, false, cond}
 use native.Mathlib.Omega.{arith}
-use borrow.Author.Tests.{ltb-true, ltb-false, leb-true, leb-false, lt-ltb, le-ltb}
+use borrow.Author.Tests.{ltb-true, ltb-false, leb-true, leb-false}
 use lib.Dec.{leb, ltb}
 use Rattle.rules.specs.declared.Counts.{Counts}
 use Rattle.rules.specs.declared.Allocator.{Allocator}
 use Rattle.rules.specs.Node.{Node, pairAt, bytesAt, small, bad, view, nil}
-use Rattle.rules.specs.Said.{Said, says, refuses, need}
+use Rattle.rules.specs.Said.{Said, says, refuses}
 use Rattle.rules.specs.State.{Lists, startAt, endAt, heap, listsSound, atomSlotSound}
-use Rattle.rules.specs.Reads.{Arg, pairArg, bytesArg, smallArg, argOf, arg, Status, before, afterNewBytes, afterOldBytes, statusOf}
-use Rattle.rules.specs.Restores.{usable, savings, Course, abort, keep, share, copy, newCourse, statusCourse, nodeCourse, course}
+use Rattle.rules.specs.Reads.{pairArg, bytesArg, argOf, afterNewBytes, afterOldBytes}
+use Rattle.rules.specs.Restores.{usable, savings, Course, abort, keep, share, copy, statusCourse, nodeCourse, course}
 use Rattle.rules.proofs.Tests.{choice}
 use Rattle.rules.proofs.Needs.{need-ind}
 use Rattle.runs.specs.Wf.{Valid, Sound, SlotOk}

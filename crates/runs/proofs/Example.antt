@@ -1,7 +1,7 @@
 -- There are runs: one with a checkpoint inside another and a restore of each sort, all accepted. Assumes nothing.
 use Prim.Native.Nat.{ℕ, zero, suc, _<_}
 use mathlib.Core.Path.{_≡_, refl, subst}
-use mathlib.Core.List.{List, [], _∷_}
+use mathlib.Core.List.{[], _∷_}
 use native.Mathlib.Omega.{arith}
 use lib.ListN.{replicate}
 use Rattle.rules.specs.Node.{view, viewOf}
@@ -12,7 +12,7 @@ use Rattle.rules.specs.Reads.{argOf}
 use Rattle.rules.specs.Creates.{newLimited, storeAtom, atomTests}
 use Rattle.rules.specs.Restores.{usable, course, restorePlain, restoreTransparent, Restoring, noReplace, replace}
 use Rattle.runs.specs.State.{St, atom, make, plainly, transparently, withNode, restore}
-use Rattle.runs.specs.Runs.{Event, took, went, LiveAt, just-taken, past-take, past-restore, noted, Past, fresh, made, taken, back}
+use Rattle.runs.specs.Runs.{took, went, LiveAt, just-taken, past-take, past-restore, noted, Past, fresh, made, taken, back}
 
 octets : (b : ℕ) → b < 256 → (n : ℕ) → Octets (replicate n b)
 octets b h zero i = omega arith

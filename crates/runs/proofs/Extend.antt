@@ -1,13 +1,14 @@
 -- Laws of `Same` and `Ext`: what the invariant of runs is made of. Assumes nothing.
-use Prim.Native.Nat.{ℕ, zero, suc, _+_, _≤_, _<_}
+use Prim.Native.Nat.{ℕ, _≤_, _<_}
 use mathlib.Core.Path.{_≡_, refl, sym, _∙_, ap}
 use mathlib.Core.List.{List}
-use native.Mathlib.Nat.{le-refl, le-trans}
+use native.Mathlib.Nat.{le-refl}
 use native.Mathlib.Omega.{arith}
 use native.Mathlib.Decide.{decLt}
-use lib.ListN.{length, getD, take, drop, set, length-set}
+use lib.ListN.{getD, take, set, length-set}
 use lib.Seq.{slice, take-take, getD-take, take-set-le}
 use Rattle.rules.specs.State.{AtomSlots, PairSlots, Lists, startAt, endAt, firstAt, restAt, putSlot, putPair}
+use Rattle.rules.proofs.Overs.{slice-same}
 use Rattle.runs.specs.State.{St}
 use Rattle.runs.specs.Wf.{Agree, SameAtoms, SamePairs, Same, RoomAtoms, RoomPairs, Room, From, past, part, Ext}
 
@@ -76,7 +77,7 @@ module _ {k : St} {l : Lists} (h : Same k l) where
   rest-same i b = agree-at (k .rec .used .pairs) (l .pairs .rests) (k .lists .pairs .rests) i b (h .pairs .rests)
 
   pub part-same : (start end : ℕ) → end ≤ k .rec .used .bytes → slice start end (l .bytes) ≡ slice start end (k .lists .bytes)
-  part-same start end b = ap (drop start) (agree-less end (k .rec .used .bytes) (l .bytes) (k .lists .bytes) b (h .bytes))
+  part-same start end b = slice-same (l .bytes) (k .lists .bytes) start end (k .rec .used .bytes) b (h .bytes)
 
 pub same-refl : (s : St) → Same s (s .lists)
 same-refl s = record { bytes = refl; atoms = record { starts = refl; ends = refl }; pairs = record { firsts = refl; rests = refl } }

@@ -1,7 +1,7 @@
 -- How a state grows over k: an atom slot with or without bytes, a pair; and how it is cut back to k. Ghosts play no part here.
 -- Assumes nothing.
-use Prim.Native.Nat.{ℕ, zero, suc, _+_, _-_, _*_, _≤_, _<_}
-use mathlib.Core.Path.{_≡_, refl, sym, _∙_, ap}
+use Prim.Native.Nat.{ℕ, _+_, _≤_, _<_}
+use mathlib.Core.Path.{_≡_, _∙_}
 use mathlib.Core.List.{List}
 use native.Mathlib.Nat.{le-refl, le-trans}
 use native.Mathlib.Omega.{arith}
@@ -9,9 +9,9 @@ use lib.ListN.{length}
 use Rattle.rules.specs.declared.Counts.{Counts}
 use Rattle.rules.specs.Node.{view}
 use Rattle.rules.specs.Small.{Octets}
-use Rattle.rules.specs.State.{Lists, lists, startAt, endAt, firstAt, restAt, moved, usedAtom, usedPair, putSlot, putPair}
+use Rattle.rules.specs.State.{Lists, lists, firstAt, restAt, moved, usedAtom, usedPair, putSlot, putPair}
 use Rattle.runs.specs.State.{St}
-use Rattle.runs.specs.Wf.{Valid, ValidIn, Sound, SlotOk, PairOk, Shape, WF, Agree, Same, Room, From, past, part, Ext, On}
+use Rattle.runs.specs.Wf.{ValidIn, Sound, SlotOk, PairOk, Shape, WF, Agree, Same, Room, From, Ext, On}
 use Rattle.runs.proofs.Tests.{Slots, valid-mono}
 use Rattle.runs.proofs.Lists.{set₂-ind}
 use Rattle.runs.proofs.Extend.{agree-trans, atoms-put, pairs-put, room-put-slot, room-put-pair, start-same, end-same, first-same, rest-same, ext-refl, ext-trans}
@@ -28,7 +28,7 @@ on g h = record { wf = record { sound = h; shape = g .shape; octets = g .octets 
 pub grown : {k s : St} → On k s → Grown k s
 grown o = record { shape = o .wf .shape; octets = o .wf .octets; ext = o .ext }
 
--- the numbers are left to `omega`, from the counts of k and the room
+-- what is left are facts on numbers, from the counts of k and the room
 pub grown-on : {k s : St} → Grown k s → (Room (s .lists) (k .lists) → Sound (s .rec) (s .lists)) → On k s
 grown-on g f = on g (f (g .ext .room))
 

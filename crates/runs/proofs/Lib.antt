@@ -8,8 +8,11 @@ pub mod Guards
 pub mod Making
 pub mod Atoms
 pub mod ByCalls
+pub mod Answers
 pub mod Parts
 pub mod Joining
+pub mod Causes
+pub mod Accepts
 pub mod Every
 pub mod Courses
 pub mod Arise
@@ -20,3 +23,4 @@ pub mod Live
 pub mod Rows
 pub mod Runs
 pub mod Example
+pub mod Promises

@@ -1,11 +1,11 @@
 -- Facts on lists that the slots and the bytes ask for. Assumes nothing.
 use Prim.Native.Nat.{ℕ, zero, suc, _+_, _-_, _≤_, _<_}
-use mathlib.Core.Path.{_≡_, refl, sym, _∙_, ap, subst}
+use mathlib.Core.Path.{_≡_, sym, _∙_, ap, subst}
 use mathlib.Core.Logic.{_≢_}
 use mathlib.Core.List.{List, [], _∷_, _++_, append-assoc}
 use native.Mathlib.Omega.{arith}
 use native.Mathlib.Decide.{decLt}
-use lib.ListN.{length, getD, take, drop, set, length-append, length-drop}
+use lib.ListN.{length, getD, take, drop, set, length-append}
 use native.Mathlib.Nat.{zero-add, suc-add}
 use lib.Seq.{slice, take-at, drop-at, take-nil, take-take, drop-drop, length-take-le, getD-set-same, getD-set-other}
 use Rattle.rules.specs.Small.{Octets}
@@ -27,25 +27,13 @@ set₂-ind P l l′ n x y i h h′ b f p = elim (decLt i n) [
 
 -- ---- bytes written over a list
 
-module _ (l : List ℕ) (i : ℕ) (v : List ℕ) where
-  pub take-over : i ≤ length l → take i (over l i v) ≡ take i l
-  take-over h = take-at (take i l) (v ++ drop (i + length v) l) i (length-take-le i l h)
-
-  pub length-over : i + length v ≤ length l → length (over l i v) ≡ length l
-  length-over h =
-      let a = length-append (take i l) (v ++ drop (i + length v) l) in
-      let b = length-append v (drop (i + length v) l) in
-      let c = length-take-le i l (omega arith) in
-      let d = length-drop (i + length v) l in
-      omega arith
-
-  -- what was written is read back
-  pub slice-over : i ≤ length l → slice i (i + length v) (over l i v) ≡ v
-  slice-over h =
-      let e : length (take i l ++ v) ≡ i + length v = omega (arith, length-append (take i l) v, length-take-le i l h) in
-      ap (λ (m : List ℕ). drop i (take (i + length v) m)) (sym (append-assoc (take i l) v (drop (i + length v) l)))
-      ∙ ap (drop i) (take-at (take i l ++ v) (drop (i + length v) l) (i + length v) e)
-      ∙ drop-at (take i l) v i (length-take-le i l h)
+-- what was written is read back
+pub slice-over : (l : List ℕ) (i : ℕ) (v : List ℕ) → i ≤ length l → slice i (i + length v) (over l i v) ≡ v
+slice-over l i v h =
+    let e : length (take i l ++ v) ≡ i + length v = omega (arith, length-append (take i l) v, length-take-le i l h) in
+    ap (λ (m : List ℕ). drop i (take (i + length v) m)) (sym (append-assoc (take i l) v (drop (i + length v) l)))
+    ∙ ap (drop i) (take-at (take i l ++ v) (drop (i + length v) l) (i + length v) e)
+    ∙ drop-at (take i l) v i (length-take-le i l h)
 
 -- ---- bytes are bytes
 

@@ -1,33 +1,34 @@
 -- The three restores to a checkpoint whose state the present one extends. Assumes nothing.
-use Prim.Native.Nat.{ℕ, zero, suc, _+_, _-_, _*_, _≤_, _<_}
+use Prim.Native.Nat.{ℕ, _+_, _-_, _≤_, _<_}
 use mathlib.Core.Path.{_≡_, refl, sym, _∙_, ap}
 use mathlib.Core.Bool.{true}
 use mathlib.Core.Option.{Option, none, some}
-use native.Mathlib.Nat.{le-refl, le-trans}
+use native.Mathlib.Nat.{le-trans}
 use native.Mathlib.Omega.{arith}
 use lib.ListN.{length}
-use lib.Seq.{slice, getD-set-same}
+use lib.Seq.{getD-set-same}
 use Rattle.rules.specs.Node.{view, bytesNode, smallNode}
 use Rattle.rules.specs.Small.{fits}
-use Rattle.rules.specs.Said.{Said, says, refuses, need, Done, done, settle}
-use Rattle.rules.specs.State.{startAt, endAt, heap, usedAtom, ghostAtom, cut, cutPlain, listsSound, atomSlotSound}
+use Rattle.rules.specs.Said.{Said, says, refuses, need, done, settle}
+use Rattle.rules.specs.State.{heap, cutPlain, listsSound, atomSlotSound}
 use Rattle.rules.specs.Reads.{checkpointOf}
-use Rattle.rules.specs.Restores as R
 use Rattle.rules.specs.Restores.{Course, usable, savings, Restoring, noReplace, replace, aborted, cloned, clone, restoreBy, restorePlain, restoreTransparent}
-use Rattle.rules.specs.Tree.{leaf, tree}
+use Rattle.rules.specs.Tree.{tree}
+use Rattle.rules.proofs.Trees.{tree-bytes}
 use Rattle.runs.specs.State.{St, Whole, storeOf, onStore, plain, transparent, maybe}
-use Rattle.runs.specs.Wf.{ValidIn, Sound, SlotOk, WF, Same, From, past, part, Ext, On}
-use Rattle.runs.specs.Makes.{Made, MakesAtom}
-use Rattle.runs.specs.Back.{Totals}
-use Rattle.runs.specs.Runs.{Plain, Cut, Transparent, Stands, Later, from, to, answer, refusal, MaybeIs}
+use Rattle.runs.specs.Wf.{ValidIn, WF, From, past, part, Ext, On}
+use Rattle.runs.specs.Makes.{MakesAtom}
+use Rattle.runs.specs.Runs.{Plain, Cut, Transparent, Stands, Later, from, to, answer, MaybeIs}
 use Rattle.runs.specs.Runs as Row
 use Rattle.runs.proofs.Tests.{clash, valid-mono, →slots, →sound, →slot, Usable, →usable}
 use Rattle.runs.proofs.Extend.{from-any}
-use Rattle.runs.proofs.Growing.{Grown, grown, on, grown-on, on-trans, kept-slots, cut-grown, atom-grown}
-use Rattle.runs.proofs.Reading.{view-bytes, tree-bytes}
+use Rattle.runs.proofs.Growing.{Grown, grown, on, on-trans, kept-slots, cut-grown, atom-grown}
+use Rattle.runs.proofs.Reading.{view-bytes}
+use Rattle.runs.proofs.Guards.{outcome-says}
+use Rattle.runs.proofs.ByCalls.{reads-alike}
 use Rattle.runs.proofs.Courses.{Open, LaterSlot, CourseIs, unsound, unusable, little, invalid, bad-slot, early, later-pair, shared, astride, too-long, over-limit, copied, course-is}
 use Rattle.runs.proofs.Arise.{atomDone, saved, lessened, saved-length, clone-done}
-use Rattle.runs.proofs.Restoring.{outcome-says, cutAt, cut-totals, cut-wf, oneLess, sharedAt, share-keeps, cleared, clone-makes, clone-totals}
+use Rattle.runs.proofs.Restoring.{cutAt, cut-totals, cut-wf, oneLess, sharedAt, share-keeps, cleared, clone-makes, clone-totals}
 
 -- the state after maybe_restore_with_node, by its answer: the same, or one that extends k
 pub data After (k s : St) : Whole Restoring → Type 0 where
@@ -93,9 +94,12 @@ module _ {k s : St} (w : WF k) (o : On k s) where
   -- ---- maybe_restore_with_node
 
   module _ (n : ℕ) where
+    stands : {s′ : St} (m : ℕ) → WF s′ → ValidIn s′ m → tree (s′ .lists) m ≡ tree (s .lists) n → Stands s n m s′
+    stands m w′ v e = record { valid = v; reads = reads-alike (o .wf) w′ n m v e; shows = e }
+
     stays : 1024 ≤ savings (k .rec .used) (s .rec) → ValidIn k n → Both k s n (answer noReplace (cutAt (k .rec .used) s))
     stays big v = record {
-      is = Row.before big (valid-mono (view n) (x .atoms) (x .pairs) v) v cut-is (record { valid = v; reads = refl });
+      is = Row.before big (valid-mono (view n) (x .atoms) (x .pairs) v) v cut-is (stands n (transparent-on .wf) v refl);
       after = kept-one transparent-on;
     }
 
@@ -128,12 +132,11 @@ module _ {k s : St} (w : WF k) (o : On k s) where
           record {
             is = Row.old-bytes i (op .big) later a
                 (record { atom-slots = refl; pair-slots = refl; bytes = refl; limit = refl; contents = p .ext .same; totals = keeps .totals })
-                (record {
-                  valid = rw (view-bytes (k .rec .used .atoms) bits) (omega arith);
-                  reads = tree-bytes (sharedAt op h .lists) (bytesNode (k .rec .used .atoms)) (k .rec .used .atoms) (view-bytes (k .rec .used .atoms) bits)
-                      ∙ rw (getD-set-same (s .lists .atoms .starts) (k .rec .used .atoms) (from s i) 0 room-starts, getD-set-same (s .lists .atoms .ends) (k .rec .used .atoms) (to s i) 0 room-ends)
-                      (sym (tree-bytes (s .lists) n i (h .is)));
-                });
+                (stands (bytesNode (k .rec .used .atoms)) (keeps .forms (o .wf))
+                (rw (view-bytes (k .rec .used .atoms) bits) (omega arith))
+                (tree-bytes (sharedAt op h .lists) (bytesNode (k .rec .used .atoms)) (k .rec .used .atoms) (view-bytes (k .rec .used .atoms) bits)
+                ∙ rw (getD-set-same (s .lists .atoms .starts) (k .rec .used .atoms) (from s i) 0 room-starts, getD-set-same (s .lists .atoms .ends) (k .rec .used .atoms) (to s i) 0 room-ends)
+                (sym (tree-bytes (s .lists) n i (h .is)))));
             after = replaced-one (bytesNode (k .rec .used .atoms)) (on p (keeps .forms (o .wf) .sound));
           }
 
@@ -142,21 +145,21 @@ module _ {k s : St} (w : WF k) (o : On k s) where
         extends = cut-grown _ (w .shape) (grown o) .ext
 
         put : (f : Option ℕ) → fits (saved op h a c) ≡ f
-            → MakesAtom (cleared op h a c) (length (saved op h a c)) (saved op h a c) (onStore (cleared op h a c) (atomDone f (lessened op h a c) (saved op h a c) (storeOf s)))
+            → MakesAtom (cleared op h a c) (saved op h a c) (onStore (cleared op h a c) (atomDone f (lessened op h a c) (saved op h a c) (storeOf s)))
             → Both k s n (onStore s (cloned (s .rec) (storeOf s) (atomDone f (lessened op h a c) (saved op h a c) (storeOf s))))
         put (some v) e c′ =
-            let m = outcome-says c′ refl in
+            let m = outcome-says c′ refl .made in
             let p = on-trans extends (m .on) in
             let same-atoms : k .rec .used .atoms ≡ k .rec .used .atoms + 0 = omega arith in
             let same-bytes : k .rec .used .bytes ≡ k .rec .used .bytes + 0 = omega arith in
             record {
               is = Row.new-small i v (op .big) later a b c e
                   (record { atom-slots = same-atoms; pair-slots = refl; bytes = same-bytes; limit = refl; contents = p .ext .same; totals = clone-totals op h a c (some v) })
-                  (record { valid = m .valid; reads = m .shows ∙ sym (tree-bytes (s .lists) n i (h .is)) });
+                  (stands (smallNode v) (p .wf) (m .valid) (m .shows ∙ sym (tree-bytes (s .lists) n i (h .is))));
               after = replaced-one (smallNode v) p;
             }
         put none e c′ =
-            let m = outcome-says c′ refl in
+            let m = outcome-says c′ refl .made in
             let p = on-trans extends (m .on) in
             record {
               is = Row.new-bytes i (op .big) later a b c e
@@ -168,7 +171,7 @@ module _ {k s : St} (w : WF k) (o : On k s) where
                     contents = p .ext .same;
                     totals = clone-totals op h a c none;
                   })
-                  (record { valid = m .valid; reads = m .shows ∙ sym (tree-bytes (s .lists) n i (h .is)) });
+                  (stands (bytesNode (k .rec .used .atoms)) (p .wf) (m .valid) (m .shows ∙ sym (tree-bytes (s .lists) n i (h .is))));
               after = replaced-one (bytesNode (k .rec .used .atoms)) p;
             }
 

@@ -1,65 +1,65 @@
 -- new_substr: what it leaves, and by how much it can pass the heap limit. Assumes nothing.
-use Prim.Native.Nat.{ℕ, zero, suc, _+_, _-_, _*_, _≤_, _<_}
+use Prim.Native.Nat.{ℕ, _+_, _-_, _≤_, _<_}
 use mathlib.Core.Path.{_≡_, refl, sym, _∙_, ap}
-use mathlib.Core.Bool.{Bool, true, false, _&&_}
 use mathlib.Core.List.{List}
 use mathlib.Core.Option.{Option, none, some}
-use native.Mathlib.Nat.{le-refl, le-trans}
+use native.Mathlib.Nat.{le-refl}
 use native.Mathlib.Omega.{arith}
 use borrow.Author.Tests.{ltb-true, leb-true}
 use native.Mathlib.Decide.{decLt}
 use lib.ListN.{length, take}
 use lib.Seq.{slice, take-all, length-slice, getD-set-same}
-use Rattle.rules.specs.Node.{Node, pairAt, bytesAt, small, bad, view, bytesNode, smallNode, nil}
+use Rattle.rules.specs.Node.{Node, pairAt, bytesAt, small, bad, view, bytesNode, smallNode}
 use Rattle.rules.specs.Small.{fits, lenFor, smallBytes, Octets}
-use Rattle.rules.specs.Said.{Said, says, refuses, need, settle}
+use Rattle.rules.specs.Said.{Said, settle}
 use Rattle.rules.specs.State.{startAt, endAt, atoms, heap}
-use Rattle.rules.specs.Reads.{Atom, range, value, atomOf, atomLength, atomBytes}
-use Rattle.rules.specs.Creates.{slotRoom, bounded, substrTests, shareRange, partPut, substrPut}
-use Rattle.rules.specs.Tree.{leaf, tree}
+use Rattle.rules.specs.Reads.{Atom, atomLength}
+use Rattle.rules.specs.Creates.{bounded, substrTests, shareRange, partPut, substrPut}
+use Rattle.rules.specs.Tree.{leaf}
 use Rattle.rules.proofs.Tests.{both}
 use Rattle.rules.proofs.Smalls.{length-be, be-octets, fits-value, fits-bytes, part-short}
+use Rattle.rules.proofs.Trees.{tree-bytes, tree-small}
 use Rattle.runs.specs.State.{St, Whole, storeOf, onStore, newSubstr}
-use Rattle.runs.specs.Wf.{SlotOk, WF}
+use Rattle.runs.specs.Wf.{WF}
 use Rattle.runs.specs.Makes as M
-use Rattle.runs.specs.Makes.{Outcome, accepted, Made, MakesAtom, shown, bytesOf, unfitting, partHeap}
+use Rattle.runs.specs.Makes.{accepted, shared, fitted, parted, PartGiven, MakesPart}
 use Rattle.runs.proofs.Lists.{octets-slice, slice-slice}
 use Rattle.runs.proofs.Extend.{ext-refl, from-any, from-within}
 use Rattle.runs.proofs.Growing.{Grown, grown, on-refl, grown-on, withAtom, atom-grown}
-use Rattle.runs.proofs.Reading.{view-bytes, small-bits, tree-bytes, tree-small}
-use Rattle.runs.proofs.Guards.{guard}
-use Rattle.runs.proofs.Atoms.{AtomIs, no-atom, in-store, itself, atom-is, Found, found}
-use Rattle.runs.proofs.Making.{small-made, bytes-made}
+use Rattle.runs.proofs.Reading.{view-bytes, small-bits}
+use Rattle.runs.proofs.Guards.{guard, under}
+use Rattle.runs.proofs.Atoms.{AtomIs, no-atom, in-store, itself, atom-is, Found, found, atom-in, shown-length}
+use Rattle.runs.proofs.Making.{Gives, small-made, bytes-made}
 
 -- a part of a small atom that does not fit has at most 3 bytes
-small-part : (v start end : ℕ) → v < 67108864 → end ≤ lenFor v → partHeap (small v) start end ≤ 3
-small-part v start end b h = go (fits (slice start end (smallBytes v))) refl
+small-part : (s : St) (v start end : ℕ) → v < 67108864 → end ≤ lenFor v → parted (small v) start end s .heap ≤ 3
+small-part s v start end b h = go (fits (slice start end (smallBytes v))) refl
   where
-    go : (f : Option ℕ) → fits (slice start end (smallBytes v)) ≡ f → unfitting f (slice start end (smallBytes v)) ≤ 3
+    go : (f : Option ℕ) → fits (slice start end (smallBytes v)) ≡ f → fitted f 0 (slice start end (smallBytes v)) s .heap ≤ 3
     go (some n) e = omega arith
     go none e =
         let l : length (slice start end (smallBytes v)) ≡ end - start = length-slice start end (smallBytes v) (omega (arith, length-be (lenFor v) v)) in
         omega (arith, part-short v start end b h e)
 
 -- so a part adds at most 3 bytes to the heap
-pub part-heap : (n start end : ℕ) → partHeap (view n) start end ≤ 3
-part-heap n start end = go (view n) refl
+pub part-heap : (s : St) (n start end : ℕ) → parted (view n) start end s .heap ≤ 3
+part-heap s n start end = go (view n) refl
   where
-    go : (x : Node) → view n ≡ x → partHeap x start end ≤ 3
+    go : (x : Node) → view n ≡ x → parted x start end s .heap ≤ 3
     go (pairAt i) e = omega arith
     go (bytesAt i) e = omega arith
     go (small v) e = elim (decLt (lenFor v) end) [
       | yes h ↦ (let q : take end (smallBytes v) ≡ take (lenFor v) (smallBytes v) =
           take-all end (smallBytes v) (omega (arith, length-be (lenFor v) v)) ∙ sym (take-all (lenFor v) (smallBytes v) (omega (arith, length-be (lenFor v) v))) in
-          rw q (small-part v start (lenFor v) (small-bits n v e) (le-refl _)))
-      | no h ↦ small-part v start end (small-bits n v e) (omega arith)
+          rw q (small-part s v start (lenFor v) (small-bits n v e) (le-refl _)))
+      | no h ↦ small-part s v start end (small-bits n v e) (omega arith)
     ]
     go bad e = omega arith
 
 module _ {s : St} (w : WF s) where
   -- of Bytes: a new slot over the same bytes
   share-makes : (i start end : ℕ) → i < s .rec .used .atoms → start ≤ end → end ≤ endAt (s .lists .atoms) i - startAt (s .lists .atoms) i → atoms (s .rec) < 62500000
-      → MakesAtom s 0 (slice start end (slice (startAt (s .lists .atoms) i) (endAt (s .lists .atoms) i) (s .lists .bytes)))
+      → Gives s (shared s) (slice start end (slice (startAt (s .lists .atoms) i) (endAt (s .lists .atoms) i) (s .lists .bytes)))
       (onStore s (shareRange (s .rec) (startAt (s .lists .atoms) i + start) (startAt (s .lists .atoms) i + end) (storeOf s)))
   unfolding shareRange
   share-makes i start end l h g a = guard _ _ _ _ _ λ t.
@@ -76,7 +76,9 @@ module _ {s : St} (w : WF s) where
       (from-within (from-any (ext-refl s) i l) (omega arith) (omega arith)) (omega arith) (omega arith) ls le in
       accepted (bytesNode j) s′ (record {
         on = grown-on gr (λ m. let u = w .sound in omega arith);
+        node-is = refl;
         counted = omega arith;
+        used = omega arith;
         valid = rw (view-bytes j bits) (omega arith);
         shows = tree-bytes (s′ .lists) (bytesNode j) j (view-bytes j bits)
             ∙ rw (getD-set-same (s .lists .atoms .starts) j (from + start) 0 ls, getD-set-same (s .lists .atoms .ends) j (from + end) 0 le)
@@ -84,32 +86,36 @@ module _ {s : St} (w : WF s) where
       })
 
   -- of a small atom: small if the part fits, else bytes and a slot, with no heap test
-  part-makes : (f : Option ℕ) (v : List ℕ) → fits v ≡ f → Octets v → unfitting f v ≤ 3 → atoms (s .rec) < 62500000
-      → MakesAtom s (unfitting f v) v (onStore s (partPut f (s .rec) v (storeOf s)))
+  part-makes : (f : Option ℕ) (v : List ℕ) → fits v ≡ f → Octets v → fitted f 0 v s .heap ≤ 3 → atoms (s .rec) < 62500000
+      → Gives s (fitted f 0 v s) v (onStore s (partPut f (s .rec) v (storeOf s)))
   part-makes (some n) v e oc h a =
       accepted (smallNode n) _ (rw (fits-bytes v n oc e) at (small-made w n 0 (fits-value v n oc e) (let u = w .sound in omega arith) a))
   part-makes none v e oc h a = bytes-made w v oc (let u = w .sound in omega arith) a
 
-  pub substr-makes : (n start end : ℕ) → MakesAtom s (partHeap (view n) start end) (slice start end (shown (s .lists) n)) (newSubstr n start end s)
+  pub substr-makes : (n start end : ℕ) → MakesPart s n start end (newSubstr n start end s)
   unfolding substrTests
   substr-makes n start end = guard _ _ _ _ _ λ t₁. guard _ _ _ _ _ λ t₂. go (ltb-true _ _ t₂) (atom-is (s .rec) (s .lists .atoms) n)
     where
+      given : {x : Atom} → Found s n x → start ≤ end → end ≤ atomLength x → PartGiven s n start end
+      given f h g = record { node = atom-in f; order = h; inside = omega (arith, shown-length f) }
+
       go : {r : Said Atom} → atoms (s .rec) < 62500000 → AtomIs (s .rec) (s .lists .atoms) n r
-          → MakesAtom s (partHeap (view n) start end) (slice start end (shown (s .lists) n))
-          (onStore s (settle (bounded n start end r) (s .rec) (storeOf s) (λ x. substrPut x (s .rec) start end (storeOf s))))
-      go a (no-atom code node) = M.refused code node
+          → MakesPart s n start end (onStore s (settle (bounded n start end r) (s .rec) (storeOf s) (λ x. substrPut x (s .rec) start end (storeOf s))))
+      go a (no-atom code node c) = M.refused code node
       go a (in-store i e l ok) =
           guard _ _ _ _ _ λ t₃. guard _ _ _ _ _ λ t₄. guard _ _ _ _ _ λ t₅.
-          rw (e, tree-bytes (s .lists) n i e) (share-makes i start end l (leb-true _ _ t₅) (leb-true _ _ t₄) a)
+          under (given (found w (in-store i e l ok)) (leb-true _ _ t₅) (leb-true _ _ t₄))
+          (rw (e, tree-bytes (s .lists) n i e) (share-makes i start end l (leb-true _ _ t₅) (leb-true _ _ t₄) a))
       go a (itself v e) =
           guard _ _ _ _ _ λ t₃. guard _ _ _ _ _ λ t₄. guard _ _ _ _ _ λ t₅.
-          rw (e, tree-small (s .lists) n v e) (part-makes (fits (slice start end (smallBytes v))) (slice start end (smallBytes v)) refl
-          (octets-slice start end (smallBytes v) (be-octets (lenFor v) v)) (small-part v start end (small-bits n v e) (leb-true _ _ t₄)) a)
+          under (given (found w (itself v e)) (leb-true _ _ t₅) (leb-true _ _ t₄))
+          (rw (e, tree-small (s .lists) n v e) (part-makes (fits (slice start end (smallBytes v))) (slice start end (smallBytes v)) refl
+          (octets-slice start end (smallBytes v) (be-octets (lenFor v) v)) (small-part s v start end (small-bits n v e) (leb-true _ _ t₄)) a))
 
   -- the heap can pass the limit by at most 3 bytes an atom, and one substr adds at most 3
   pub substr-heap : (n start end : ℕ) → heap (newSubstr n start end s .next .rec) ≤ heap (s .rec) + 3
   substr-heap n start end = go (substr-makes n start end)
     where
-      go : {o : Whole ℕ} → MakesAtom s (partHeap (view n) start end) (slice start end (shown (s .lists) n)) o → heap (o .next .rec) ≤ heap (s .rec) + 3
+      go : {o : Whole ℕ} → MakesPart s n start end o → heap (o .next .rec) ≤ heap (s .rec) + 3
       go (M.refused code node) = omega arith
-      go (accepted m s′ d) = omega (arith, part-heap n start end, d .counted .heap-now)
+      go (accepted m s′ d) = omega (arith, part-heap s n start end, d .made .counted .heap-now)

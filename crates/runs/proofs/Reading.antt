@@ -1,17 +1,16 @@
--- A node that is valid in k reads the same in all lists that hold what k uses; and `tree` reads all of a tree. Assumes nothing.
-use Prim.Native.Nat.{ℕ, zero, suc, _+_, _*_, _/_, _%_, _≤_, _<_}
+-- A node that is valid in k reads the same in all lists that hold what k uses. Assumes nothing.
+use Prim.Native.Nat.{ℕ, zero, suc, _+_, _*_, _/_, _%_, _<_}
 use mathlib.Core.Path.{_≡_, refl, ap, ap₂, _∙_}
-use native.Mathlib.Nat.{le-refl, le-trans}
+use native.Mathlib.Nat.{le-refl}
 use native.Mathlib.Omega.{arith}
-use lib.Seq.{slice}
 use Rattle.rules.specs.Node.{Node, pairAt, bytesAt, small, bad, viewOf, view, pairNode, bytesNode, smallNode}
-use Rattle.rules.specs.Small.{smallBytes}
 use Rattle.rules.specs.State.{Lists, startAt, endAt, firstAt, restAt}
-use Rattle.rules.proofs.Args.{Low, view-low}
-use Rattle.rules.specs.Tree.{Tree, leaf, fork, level, treeTo, depth, tree}
+use Rattle.rules.proofs.Args.{view-low}
+use Rattle.rules.specs.Tree.{Tree, leaf, fork, level, treeTo, tree}
 use Rattle.runs.specs.State.{St}
 use Rattle.runs.specs.Wf.{Valid, ValidIn, Shape, Same}
-use Rattle.runs.proofs.Tests.{valid-mono}
+use Rattle.rules.proofs.Trees as Trees
+use Rattle.runs.proofs.Tests.{valid-mono, →pair}
 use Rattle.runs.proofs.Extend.{start-same, end-same, first-same, rest-same, part-same}
 
 -- ---- the bits of a node
@@ -63,48 +62,8 @@ module _ {k : St} {l : Lists} (w : Shape k) (h : Same k l) where
   unfolding tree
   tree-same n b = treeTo-same _ n b
 
--- ---- `tree` unfolds: an atom shows its bytes, a pair its two children
+-- ---- `tree` unfolds: a pair shows its two children (an atom its bytes: `tree-bytes` and `tree-small` of the rules)
 
-pub tree-bytes : (l : Lists) (n i : ℕ) → view n ≡ bytesAt i → tree l n ≡ leaf (slice (startAt (l .atoms) i) (endAt (l .atoms) i) (l .bytes))
-unfolding tree treeTo level
-tree-bytes l n i e = rw e
-
-pub tree-small : (l : Lists) (n v : ℕ) → view n ≡ small v → tree l n ≡ leaf (smallBytes v)
-unfolding tree treeTo level
-tree-small l n v e = rw e
-
--- d levels are enough for a node valid against d pair slots, and more change nothing
-module _ {s : St} (w : Shape s) where
-  enough-at : (d e : ℕ) → d ≤ s .rec .used .pairs → d ≤ e
-      → ((j f : ℕ) → d ≡ suc j → Valid (s .rec .used .atoms) j (view f) → treeTo e (s .lists) f ≡ treeTo d (s .lists) f)
-      → (v : Node) → Valid (s .rec .used .atoms) d v → level (treeTo e (s .lists)) (s .lists) v ≡ level (treeTo d (s .lists)) (s .lists) v
-  unfolding level
-  enough-at zero e p h ih (pairAt i) l = absurd (omega arith)
-  enough-at (suc d) e p h ih (pairAt i) l =
-      let q : i < s .rec .used .pairs = omega arith in
-      ap₂ fork (ih d _ refl (valid-mono (view (firstAt (s .lists .pairs) i)) (le-refl _) (omega arith) (w .pair i q .first-ok)))
-      (ih d _ refl (valid-mono (view (restAt (s .lists .pairs) i)) (le-refl _) (omega arith) (w .pair i q .rest-ok)))
-  enough-at d e p h ih (bytesAt i) l = refl
-  enough-at d e p h ih (small v) l = refl
-  enough-at d e p h ih bad l = refl
-
-  enough : (d e n : ℕ) → d ≤ s .rec .used .pairs → Valid (s .rec .used .atoms) d (view n) → d ≤ e → treeTo (suc e) (s .lists) n ≡ treeTo (suc d) (s .lists) n
-  unfolding treeTo
-  enough zero e n p l h = enough-at zero e p h (λ j f q v. absurd (omega arith)) (view n) l
-  enough (suc d) zero n p l h = absurd (omega arith)
-  enough (suc d) (suc e) n p l h = enough-at (suc d) (suc e) p h (λ j f q v. enough d e f (omega arith) (valid-mono (view f) (le-refl _) (omega arith) v) (omega arith)) (view n) l
-
-  deep : (i : ℕ) (v : Node) → Valid (s .rec .used .atoms) i v → (depth v ≤ i) × Valid (s .rec .used .atoms) (depth v) v
-  deep i (pairAt j) l = (l, le-refl _)
-  deep i (bytesAt j) l = (omega arith, l)
-  deep i (small v) l = (omega arith, l)
-  deep i bad l = absurd l
-
-  child : (i n : ℕ) → i < s .rec .used .pairs → Valid (s .rec .used .atoms) i (view n) → treeTo (suc i) (s .lists) n ≡ tree (s .lists) n
-  unfolding tree
-  child i n l v = let r = deep i (view n) v in enough (depth (view n)) i n (le-trans (r .0) (omega arith)) (r .1) (r .0)
-
-  pub tree-pair : (n i : ℕ) → i < s .rec .used .pairs → view n ≡ pairAt i
-      → tree (s .lists) n ≡ fork (tree (s .lists) (firstAt (s .lists .pairs) i)) (tree (s .lists) (restAt (s .lists .pairs) i))
-  unfolding tree treeTo level
-  tree-pair n i l e = rw e (ap₂ fork (child i _ l (w .pair i l .first-ok)) (child i _ l (w .pair i l .rest-ok)))
+pub tree-pair : {s : St} → Shape s → (n i : ℕ) → i < s .rec .used .pairs → view n ≡ pairAt i
+    → tree (s .lists) n ≡ fork (tree (s .lists) (firstAt (s .lists .pairs) i)) (tree (s .lists) (restAt (s .lists .pairs) i))
+tree-pair {s} w = Trees.tree-pair (s .rec .used .atoms) (s .rec .used .pairs) (s .lists) (λ i l. →pair (s .rec .used .atoms) (s .lists .pairs) i (w .pair i l))

@@ -14,7 +14,7 @@ use Rattle.rules.specs.State.{Store, PairSlots}
 use Rattle.rules.specs.Reads.{Atom, range, value, atomOf}
 use Rattle.rules.specs.Creates as C
 use Rattle.rules.specs.Creates.{smallOr, storeAtom, atomTests, smallTests, pairTests, shareRange, substrPut, substrTests, oneTerm, scan, joined, concatPut, concatTests}
-use Rattle.runs.specs.State.{St, Whole, storeOf, alone, onPairs, onStore, newAtom, Making, atom, small-number, u64, i64, pair, substr, concat, ghost-pairs, fewer-ghost-pairs, ghost-atoms, noded, ghostly, call, plainTo, transparentTo, maybeTo}
+use Rattle.runs.specs.State.{St, Whole, storeOf, alone, onPairs, onStore, newAtom, Making, atom, small-number, u64, i64, pair, substr, concat, ghost-pairs, fewer-ghost-pairs, ghost-atoms, answersNode, answersNone, call, plainTo, transparentTo, maybeTo}
 use Rattle.runs.specs.Makes.{Outcome, refused, accepted, Harmless}
 use Rattle.runs.proofs.Guards.{guard, guard-alone}
 use Rattle.runs.proofs.Restoring.{transparent-keeps, plain-forms, maybe-keeps}
@@ -23,13 +23,13 @@ harmless : {A : Type 0} {s : St} {P : A → St → Type 0} {o : Whole A} → Out
 harmless (refused code node) = refused code node
 harmless (accepted x s′ p) = accepted x s′ tt
 
-noded-harmless : {s : St} {o : Whole ℕ} → Harmless s o → Harmless s (noded o)
-noded-harmless (refused code node) = refused code node
-noded-harmless (accepted x s′ p) = accepted (some x) s′ tt
+node-harmless : {s : St} {o : Whole ℕ} → Harmless s o → Harmless s (answersNode o)
+node-harmless (refused code node) = refused code node
+node-harmless (accepted x s′ p) = accepted (some x) s′ tt
 
-ghostly-harmless : {s : St} {o : Whole Done} → Harmless s o → Harmless s (ghostly o)
-ghostly-harmless (refused code node) = refused code node
-ghostly-harmless (accepted x s′ p) = accepted none s′ tt
+none-harmless : {s : St} {o : Whole Done} → Harmless s o → Harmless s (answersNone o)
+none-harmless (refused code node) = refused code node
+none-harmless (accepted x s′ p) = accepted none s′ tt
 
 module _ (s : St) where
   -- the tests refuse, or the rest does what it does
@@ -68,16 +68,16 @@ module _ (s : St) where
 
   pub call-refused : (m : Making) → Harmless s (call m s)
   unfolding C.addGhostPair C.removeGhostPair C.addGhostAtom
-  call-refused (atom v o) = noded-harmless (atom-refused v)
-  call-refused (small-number v) = noded-harmless (settled-alone (smallTests (s .rec) v) _ λ d. accepted _ _ tt)
-  call-refused (u64 x h) = noded-harmless (atom-refused (intBytes (pos x)))
-  call-refused (i64 z h) = noded-harmless (atom-refused (intBytes z))
-  call-refused (pair first rest) = noded-harmless (settled-pairs (pairTests (s .rec) first rest (s .lists .pairs)) _ λ d. accepted _ _ tt)
-  call-refused (substr n start end) = noded-harmless (settled (substrTests (s .rec) n start end (storeOf s)) _ λ x. substr-put x start end)
-  call-refused (concat size ns) = noded-harmless (settled (concatTests (s .rec) size (storeOf s)) _ λ d. concat-put size ns)
-  call-refused (ghost-pairs amount) = ghostly-harmless (guard-alone _ _ _ _ _ λ t₁. guard-alone _ _ _ _ _ λ t₂. accepted _ _ tt)
-  call-refused (fewer-ghost-pairs amount) = ghostly-harmless (guard-alone _ _ _ _ _ λ t₁. guard-alone _ _ _ _ _ λ t₂. accepted _ _ tt)
-  call-refused (ghost-atoms amount) = ghostly-harmless (guard-alone _ _ _ _ _ λ t₁. guard-alone _ _ _ _ _ λ t₂. accepted _ _ tt)
+  call-refused (atom v o) = node-harmless (atom-refused v)
+  call-refused (small-number v) = node-harmless (settled-alone (smallTests (s .rec) v) _ λ d. accepted _ _ tt)
+  call-refused (u64 x h) = node-harmless (atom-refused (intBytes (pos x)))
+  call-refused (i64 z h) = node-harmless (atom-refused (intBytes z))
+  call-refused (pair first rest) = node-harmless (settled-pairs (pairTests (s .rec) first rest (s .lists .pairs)) _ λ d. accepted _ _ tt)
+  call-refused (substr n start end) = node-harmless (settled (substrTests (s .rec) n start end (storeOf s)) _ λ x. substr-put x start end)
+  call-refused (concat size ns) = node-harmless (settled (concatTests (s .rec) size (storeOf s)) _ λ d. concat-put size ns)
+  call-refused (ghost-pairs amount) = none-harmless (guard-alone _ _ _ _ _ λ t₁. guard-alone _ _ _ _ _ λ t₂. accepted _ _ tt)
+  call-refused (fewer-ghost-pairs amount) = none-harmless (guard-alone _ _ _ _ _ λ t₁. guard-alone _ _ _ _ _ λ t₂. accepted _ _ tt)
+  call-refused (ghost-atoms amount) = none-harmless (guard-alone _ _ _ _ _ λ t₁. guard-alone _ _ _ _ _ λ t₂. accepted _ _ tt)
 
 -- the restores, to any checkpoint
 pub plain-refused : (k : Checkpoint) (s : St) → Harmless s (plainTo k s)

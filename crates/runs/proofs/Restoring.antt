@@ -1,39 +1,29 @@
 -- Restores to any checkpoint, in any state: accepted, they keep the totals and leave a well-formed state well-formed. Assumes nothing.
-use Prim.Native.Nat.{ℕ, zero, suc, _+_, _-_, _*_, _≤_, _<_}
-use mathlib.Core.Path.{_≡_, refl, sym, _∙_, subst}
-use mathlib.Core.List.{List}
+use Prim.Native.Nat.{ℕ, _≤_, _<_}
+use mathlib.Core.Path.{refl}
 use mathlib.Core.Option.{Option, none, some}
-use native.Mathlib.Nat.{le-refl, le-trans}
 use native.Mathlib.Omega.{arith}
 use lib.ListN.{length, length-set}
-use lib.Seq.{slice}
 use Rattle.rules.specs.declared.Counts.{Counts}
 use Rattle.rules.specs.declared.Checkpoint.{Checkpoint}
-use Rattle.rules.specs.Node.{bytesNode, smallNode}
-use Rattle.rules.specs.Small.{fits, Octets}
-use Rattle.rules.specs.Said.{Said, says, refuses, need, Done, done, settle}
-use Rattle.rules.specs.State.{startAt, endAt, heap, store, cut, cutPlain, lessGhosts}
-use Rattle.rules.specs.Restores as R
-use Rattle.rules.specs.Restores.{Course, abort, keep, share, copy, course, Restoring, noReplace, replace, aborted, cloned, clone, restoreBy, restorePlain, restoreTransparent}
-use Rattle.rules.specs.Tree.{leaf}
+use Rattle.rules.specs.Node.{bytesNode}
+use Rattle.rules.specs.Small.{fits}
+use Rattle.rules.specs.Said.{Said, done, settle}
+use Rattle.rules.specs.State.{startAt, endAt, heap, cut, cutPlain, lessGhosts}
+use Rattle.rules.specs.Restores.{Course, noReplace, replace, aborted, cloned, clone, restoreBy, restorePlain, restoreTransparent}
 use Rattle.rules.proofs.Sound.{slots-lent}
-use Rattle.runs.specs.State.{St, Whole, storeOf, alone, onStore, newAtom, plainTo, transparentTo, maybeTo}
-use Rattle.runs.specs.Wf.{Sound, Shape, WF}
+use Rattle.runs.specs.State.{St, storeOf, onStore, plainTo, transparentTo, maybeTo}
+use Rattle.runs.specs.Wf.{WF}
 use Rattle.runs.specs.Makes as M
-use Rattle.runs.specs.Makes.{Outcome, accepted, Made, MakesAtom}
+use Rattle.runs.specs.Makes.{Outcome, accepted, MakesAtom}
 use Rattle.runs.specs.Back.{Totals, KeepsTotals}
 use Rattle.runs.proofs.Tests.{Usable, usable→}
 use Rattle.runs.proofs.Lists.{octets-slice}
 use Rattle.runs.proofs.Growing.{withAtom, atom-shape}
-use Rattle.runs.proofs.Guards.{guard-alone}
+use Rattle.runs.proofs.Guards.{guard-alone, outcome-says}
 use Rattle.runs.proofs.Making.{atom-makes}
 use Rattle.runs.proofs.Courses.{Open, LaterSlot, CourseIs, unsound, unusable, little, invalid, bad-slot, early, later-pair, shared, astride, too-long, over-limit, copied, course-is}
-use Rattle.runs.proofs.Arise.{atomDone, saved, lessened, saved-length, lessened-sound, lessened-heap, lessened-atoms, clone-done}
-
--- what an accepted call leaves
-pub outcome-says : {A : Type 0} {s : St} {P : A → St → Type 0} {o : Whole A} {x : A} → Outcome s P o → o .said ≡ says x → P x (o .next)
-outcome-says (M.refused code node) e = let z : _≡_ {A = ℕ} 0 1 = cc in absurd (omega arith)
-outcome-says {P = P} {x = x} (accepted y s′ p) e = let q : y ≡ x = cc in subst (λ z. P z s′) q p
+use Rattle.runs.proofs.Arise.{atomDone, saved, lessened, saved-length, lessened-sound, clone-done}
 
 -- ---- a transparent restore
 
@@ -115,7 +105,7 @@ module _ {k : Counts} {n : ℕ} {s : St} {i : ℕ} (o : Open k (s .rec) (s .list
     }
 
     -- what new_atom makes of them there
-    pub clone-makes : WF s → MakesAtom cleared (length (saved o h b g)) (saved o h b g) (onStore cleared (atomDone (fits (saved o h b g)) (lessened o h b g) (saved o h b g) (storeOf s)))
+    pub clone-makes : WF s → MakesAtom cleared (saved o h b g) (onStore cleared (atomDone (fits (saved o h b g)) (lessened o h b g) (saved o h b g) (storeOf s)))
     clone-makes w = rw (clone-done o h b g) at (atom-makes (cleared-wf w) (saved o h b g)
         (octets-slice (startAt (s .lists .atoms) i) (endAt (s .lists .atoms) i) (s .lists .bytes) (w .octets)))
 
@@ -126,10 +116,10 @@ module _ {k : Counts} {n : ℕ} {s : St} {i : ℕ} (o : Open k (s .rec) (s .list
     clone-keeps : Outcome s (KeepsTotals s) (onStore s (clone k (startAt (s .lists .atoms) i) (endAt (s .lists .atoms) i) (s .rec) (storeOf s)))
     clone-keeps = rw (clone-done o h b g) (put (fits (saved o h b g)) clone-makes)
       where
-        put : (f : Option ℕ) → (WF s → MakesAtom cleared (length (saved o h b g)) (saved o h b g) (onStore cleared (atomDone f (lessened o h b g) (saved o h b g) (storeOf s))))
+        put : (f : Option ℕ) → (WF s → MakesAtom cleared (saved o h b g) (onStore cleared (atomDone f (lessened o h b g) (saved o h b g) (storeOf s))))
             → Outcome s (KeepsTotals s) (onStore s (cloned (s .rec) (storeOf s) (atomDone f (lessened o h b g) (saved o h b g) (storeOf s))))
-        put (some v) c = accepted _ _ (record { totals = clone-totals (some v); forms = λ w. outcome-says (c w) refl .on .wf })
-        put none c = accepted _ _ (record { totals = clone-totals none; forms = λ w. outcome-says (c w) refl .on .wf })
+        put (some v) c = accepted _ _ (record { totals = clone-totals (some v); forms = λ w. outcome-says (c w) refl .made .on .wf })
+        put none c = accepted _ _ (record { totals = clone-totals none; forms = λ w. outcome-says (c w) refl .made .on .wf })
 
 pub maybe-keeps : (k : Counts) (n : ℕ) (s : St) → Outcome s (KeepsTotals s) (maybeTo k n s)
 maybe-keeps k n s = go (course-is k n (s .rec) (s .lists))

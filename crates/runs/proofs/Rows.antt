@@ -1,18 +1,18 @@
 -- The rows of the rule for maybe_restore_with_node exclude one another. Assumes nothing.
-use Prim.Native.Nat.{ℕ, zero, suc, _+_, _-_, _≤_, _<_}
+use Prim.Native.Nat.{ℕ, _-_, _≤_}
 use mathlib.Core.Path.{_≡_, refl, sym, _∙_}
-use mathlib.Core.Bool.{Bool, true, false, cond}
+use mathlib.Core.Bool.{cond}
 use mathlib.Core.Option.{Option, none, some}
 use native.Mathlib.Omega.{arith}
-use borrow.Author.Tests.{lt-ltb, le-ltb, le-leb, lt-leb}
-use lib.Dec.{leb, ltb}
+use borrow.Author.Tests.{lt-ltb, le-ltb}
+use lib.Dec.{ltb}
 use lib.Seq.{slice}
 use Rattle.rules.specs.Node.{Node, pairAt, bytesAt, small, bad, view}
 use Rattle.rules.specs.Small.{fits}
 use Rattle.rules.specs.State.{heap}
 use Rattle.rules.specs.Restores.{savings, Restoring}
 use Rattle.runs.specs.State.{St, Whole}
-use Rattle.runs.specs.Wf.{Valid, ValidIn}
+use Rattle.runs.specs.Wf.{Valid}
 use Rattle.runs.specs.Runs.{Later, from, to, MaybeIs, little, invalid, before, later-pair, old-bytes, too-long, over-limit, new-small, new-bytes, row}
 
 -- the number that the checkpoint, the state and the node give

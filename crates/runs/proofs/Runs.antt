@@ -1,34 +1,29 @@
 -- Demand 3, proved: in a run the state extends that of the newest live checkpoint, that one the next, and so on. Assumes nothing.
-use Prim.Native.Nat.{ℕ, zero, suc, _≤_, _<_}
-use mathlib.Core.Path.{_≡_, refl, sym, _∙_, subst}
+use Prim.Native.Nat.{ℕ, _≤_, _<_}
+use mathlib.Core.Path.{_≡_, refl, sym, subst}
 use mathlib.Core.Logic.{_≢_}
-use mathlib.Core.Bool.{Bool, true, false, cond}
+use mathlib.Core.Bool.{cond}
 use mathlib.Core.List.{List, [], _∷_}
 use native.Mathlib.Nat.{le-refl, le-trans}
 use native.Mathlib.Omega.{arith}
-use borrow.Author.Tests.{le-leb, lt-leb, leb-true, leb-false}
+use borrow.Author.Tests.{le-leb, lt-leb}
 use lib.Dec.{leb}
-use Rattle.rules.specs.Node.{view, nil}
-use Rattle.rules.specs.Small.{Octets}
-use Rattle.rules.specs.Said.{Said, says, refuses, need, codeOf, Done, done, noLists, out, settle}
-use Rattle.rules.specs.State.{Lists}
+use Rattle.rules.specs.Node.{view}
+use Rattle.rules.specs.Said.{Said, says, refuses, need, codeOf, Done}
 use Rattle.rules.specs.Reads.{checkpoint, checkpointOf, transparentCheckpoint}
-use Rattle.rules.specs.Creates as C
 use Rattle.rules.specs.Restores.{Restoring, noReplace, replace, aborted}
-use Rattle.rules.specs.Tree.{Tree}
 use Rattle.rules.proofs.Tests.{choice}
-use Rattle.rules.proofs.Needs.{need-ind}
 use Rattle.runs.specs.State.{St, Whole, Making, make, Way, plainly, transparently, withNode, nodeless, restore}
 use Rattle.runs.specs.Wf.{WF, On}
-use Rattle.runs.specs.ByCalls.{ReadsAs}
-use Rattle.runs.specs.Runs.{Event, took, went, count, LiveAt, just-taken, past-take, past-restore, noted, Past, fresh, made, read, taken, back, Stands, MaybeIs, little, invalid, before, later-pair, old-bytes, too-long, over-limit, new-small, new-bytes, Kept, Demand3}
+use Rattle.runs.specs.Runs.{Event, took, went, count, LiveAt, just-taken, past-take, past-restore, noted, Past, fresh, made, read, taken, back, MaybeIs, little, invalid, before, later-pair, old-bytes, too-long, over-limit, new-small, new-bytes, Kept, Demand3}
 use Rattle.runs.proofs.Tests.{→limits, valid-mono}
 use Rattle.runs.proofs.Growing.{on-refl, on-trans}
 use Rattle.runs.proofs.Reading.{tree-same}
-use Rattle.runs.proofs.ByCalls.{reads-only, reads-tree, reads-same}
+use Rattle.runs.proofs.Answers.{same-answers}
+use Rattle.runs.proofs.ByCalls.{reads-same}
 use Rattle.runs.proofs.Every.{make-on}
-use Rattle.runs.proofs.Checked.{Checked, wf-checked}
-use Rattle.runs.proofs.Live.{After, refused-one, aborted-one, kept-one, replaced-one, Both, transparent-on, transparent-eq, transparent-is, plain-on, plain-eq, plain-is, maybe-both}
+use Rattle.runs.proofs.Checked.{Checked, wf-checked, fresh-wf}
+use Rattle.runs.proofs.Live.{After, refused-one, aborted-one, kept-one, replaced-one, transparent-on, transparent-eq, transparent-is, plain-on, plain-eq, plain-is, maybe-both}
 
 -- ---- the live checkpoints of a history, newest first, each with its number and the state in which it was taken
 
@@ -130,18 +125,6 @@ return c h ch r aborted-one = ch
 return c h ch r (kept-one p) = r .cut _ p
 return c h ch r (replaced-one m p) = r .cut _ p
 
-fresh-at : (limit : ℕ) (l : Lists) → limit ≤ 4294967295 → Octets (l .bytes) → WF (record { rec = C.fresh limit; lists = l })
-fresh-at limit l h o = record {
-  sound = omega arith;
-  shape = record { slot = λ i b. absurd (omega arith); pair = λ i b. absurd (omega arith) };
-  octets = o;
-}
-
-fresh-wf : (limit : ℕ) (l : Lists) → Octets (l .bytes) → WF (record { rec = C.newLimited limit .rec; lists = l })
-unfolding C.newLimited
-fresh-wf limit l o = need-ind (λ r. WF (record { rec = settle r (C.fresh 0) noLists (λ d. out done (C.fresh limit) noLists) .rec; lists = l }))
-    (leb limit 4294967295) 1 nil (says done) (λ t. fresh-at 0 l (omega arith) o) (λ t. fresh-at limit l (leb-true _ _ t) o)
-
 chain : {s : St} {h : List Event} → Past s h → Chain (marks h) s
 unfolding marks
 chain (fresh limit l o) = end (fresh-wf limit l o)
@@ -177,6 +160,7 @@ demand3 s k h c p l =
       usable = λ way. codes way (r .wf) (r .on);
       valid = λ n v. valid-mono (view n) (r .on .ext .atoms) (r .on .ext .pairs) v;
       reads = reads-same (r .wf) (r .on);
+      answers = same-answers (r .wf) (r .on);
       trees = tree-same (r .wf .shape) (r .on .ext .same);
       plain-is = plain-is (r .wf) (r .on);
       transparent-is = transparent-is (r .wf) (r .on);
@@ -207,16 +191,3 @@ run-takes p = rw (→limits (run-wf p .sound))
 pub run-marks : {s : St} {h : List Event} → Past s h → transparentCheckpoint (s .rec) ≡ says (s .rec .used)
 unfolding need
 run-marks p = rw (→limits (run-wf p .sound))
-
--- the node that a restore leaves reads, by the calls, as the one given did
-pub stands-reads : {s s′ : St} {n m : ℕ} {t : Tree} → WF s → WF s′ → Stands s n m s′ → ReadsAs s n t → ReadsAs s′ m t
-stands-reads {s′ = s′} {m = m} w w′ p r = subst (ReadsAs s′ m) (p .reads ∙ sym (reads-only w r)) (reads-tree w′ m (p .valid))
-
--- ---- code whose contract equates what it gives with these definitions carries a run on
-
-pub made-code : {s : St} {h : List Event} → Past s h → (m : Making) (s′ : St) → s′ ≡ make m s → Past s′ h
-made-code p m s′ e = rw e (made p m)
-
-pub back-code : {s k : St} {h : List Event} {c : ℕ} → Past s h → (way : Way) → LiveAt c k h → (o : Whole Restoring) → o ≡ restore way k s
-    → Past (o .next) (noted (o .said) c h)
-back-code p way l o e = rw e (back p way l)

@@ -1,24 +1,23 @@
 -- The tests of the rules as facts, and back: records, slots, nodes, checkpoints. Assumes nothing.
-use Prim.Native.Nat.{ℕ, zero, suc, _+_, _≤_, _<_}
+use Prim.Native.Nat.{ℕ, _+_, _≤_, _<_}
 use mathlib.Core.Path.{_≡_, refl, sym, _∙_}
 use mathlib.Core.Logic.{_↔_}
 use mathlib.Core.Bool.{Bool, true, false, _&&_, false≢true}
 use native.Mathlib.Omega.{arith}
 use borrow.Author.Tests.{lt-ltb, le-leb, ltb-true, leb-true}
-use lib.Dec.{leb, ltb}
 use lib.ListN.{length}
 use Rattle.rules.specs.declared.Counts.{Counts}
 use Rattle.rules.specs.declared.Allocator.{Allocator}
 use Rattle.rules.specs.Node.{Node, pairAt, bytesAt, small, bad, view, validAs, validNode}
-use Rattle.rules.specs.State.{AtomSlots, PairSlots, Store, Lists, startAt, endAt, firstAt, restAt, limitsSound, atomsSound, pairsSound, slotsSound, storeSound, listsSound, atomSlotSound, pairSlotSound, all, atomSlotsSound, pairSlotsSound, wellFormed}
+use Rattle.rules.specs.State.{AtomSlots, PairSlots, Store, Lists, startAt, endAt, firstAt, restAt, limitsSound, atomsSound, pairsSound, slotsSound, storeSound, listsSound, atomSlotSound, pairSlotSound, atomSlotsSound, pairSlotsSound, wellFormed}
 use Rattle.rules.specs.Creates.{storeRoom}
 use Rattle.rules.specs.Restores.{usable}
 use Rattle.rules.proofs.Tests.{both}
 use Rattle.rules.proofs.Alls.{all-at, all-hold}
 use Rattle.rules.proofs.Limits.{limits-hold}
 use Rattle.rules.proofs.Sound.{lists-lent}
-use Rattle.runs.specs.State.{St, storeOf}
-use Rattle.runs.specs.Wf.{Valid, ValidIn, Sound, SlotOk, PairOk, Shape}
+use Rattle.runs.specs.State.{St}
+use Rattle.runs.specs.Wf.{Valid, Sound, SlotOk, PairOk, Shape}
 
 pub and-true : (x y : Bool) → x ≡ true → y ≡ true → (x && y) ≡ true
 and-true x y h g = rw (h, g)
@@ -36,7 +35,7 @@ module _ {a : Allocator} {l : Lists} (h : Sound a l) where
   pub →limits : limitsSound a ≡ true
   →limits = limits-hold a (omega arith)
 
-  →atoms : atomsSound a (l .atoms) ≡ true
+  pub →atoms : atomsSound a (l .atoms) ≡ true
   →atoms = rw (→limits, le-leb _ _ (h .starts-fit), le-leb _ _ (h .ends-fit))
 
   pub →pairs : pairsSound a (l .pairs) ≡ true

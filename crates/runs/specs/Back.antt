@@ -5,9 +5,8 @@ use lib.ListN.{length}
 use lib.Seq.{slice}
 use Rattle.rules.specs.declared.Counts.{Counts}
 use Rattle.rules.specs.declared.Allocator.{Allocator}
-use Rattle.rules.specs.Node.{Node, bytesAt, view}
-use Rattle.rules.specs.Said.{Said, says}
-use Rattle.rules.specs.State.{Lists, Store, store, startAt, endAt, atoms, pairs, heap, cut, lessGhosts}
+use Rattle.rules.specs.Said.{says}
+use Rattle.rules.specs.State.{Lists, store, atoms, pairs, heap, cut, lessGhosts}
 use Rattle.rules.specs.Creates.{newAtom}
 use Rattle.runs.specs.State.{St}
 use Rattle.runs.specs.Wf.{WF}

@@ -2,6 +2,7 @@
 pub mod State
 pub mod Wf
 pub mod Makes
+pub mod Causes
 pub mod ByCalls
 pub mod Back
 pub mod Runs

@@ -1,20 +1,20 @@
 -- Demand 3 of document 00: what holds in every run, of every checkpoint that is live.
-use Prim.Native.Nat.{ℕ, zero, suc, _+_, _-_, _≤_, _<_}
+use Prim.Native.Nat.{ℕ, suc, _+_, _-_, _*_, _≤_, _<_}
 use mathlib.Core.Path.{_≡_}
 use mathlib.Core.Logic.{_≢_}
 use mathlib.Core.List.{List, [], _∷_}
-use mathlib.Core.Option.{Option, none, some}
+use mathlib.Core.Option.{none, some}
 use lib.Seq.{slice}
-use Rattle.rules.specs.Node.{Node, pairAt, bytesAt, view, bytesNode, smallNode, nil}
+use Rattle.rules.specs.Node.{pairAt, bytesAt, view, bytesNode, smallNode, nil}
 use Rattle.rules.specs.Small.{fits, Octets}
 use Rattle.rules.specs.Said.{Said, says, refuses, codeOf, Done, done}
 use Rattle.rules.specs.State.{Lists, startAt, endAt, heap}
 use Rattle.rules.specs.Creates.{newLimited}
-use Rattle.rules.specs.Restores.{savings, Restoring, noReplace, replace, aborted}
+use Rattle.rules.specs.Restores.{Restoring, noReplace, replace, aborted}
 use Rattle.rules.specs.Tree.{Tree, tree}
 use Rattle.runs.specs.State.{St, Whole, Making, make, plain, transparent, maybe, Way, restore}
-use Rattle.runs.specs.Wf.{Valid, ValidIn, Same}
-use Rattle.runs.specs.ByCalls.{ReadsAs}
+use Rattle.runs.specs.Wf.{ValidIn, Same}
+use Rattle.runs.specs.ByCalls.{ReadsAs, SameAnswers}
 use Rattle.runs.specs.Back.{Totals}
 
 -- ---- a run
@@ -78,10 +78,17 @@ pub record Transparent (k s : St) (o : Whole Done) : Type 0 where
   pub accepted : o .said ≡ says done
   pub is-cut : Cut 0 0 k s (o .next)
 
--- "leaves for a valid node one that reads the same": m stands for n
+-- "leaves for a valid node one that reads the same": m stands for n, by the calls and by the definition of a tree
 pub record Stands (s : St) (n m : ℕ) (s′ : St) : Type 0 where
   pub valid : ValidIn s′ m
-  pub reads : tree (s′ .lists) m ≡ tree (s .lists) n
+  pub reads : (t : Tree) → ReadsAs s n t → ReadsAs s′ m t
+  pub shows : tree (s′ .lists) m ≡ tree (s .lists) n
+
+-- the savings: bytes cut + 8 × (atoms cut + pairs cut)
+abbrev pub savedBy : St → St → ℕ
+savedBy k s =
+    (s .rec .used .bytes - k .rec .used .bytes)
+    + 8 * ((s .rec .used .atoms - k .rec .used .atoms) + (s .rec .used .pairs - k .rec .used .pairs))
 
 -- the node is Bytes, of slot i, later than the checkpoint
 pub record Later (k s : St) (n i : ℕ) : Type 0 where
@@ -89,6 +96,7 @@ pub record Later (k s : St) (n i : ℕ) : Type 0 where
   pub after : k .rec .used .atoms ≤ i
   pub used : i < s .rec .used .atoms
 
+-- where that slot starts and ends
 abbrev pub from : St → ℕ → ℕ
 from s i = startAt (s .lists .atoms) i
 
@@ -104,22 +112,22 @@ refusal code s = record { said = refuses code nil; next = s }
 -- "maybe_restore_with_node aborts, is refused or restores exactly when document 01 says":
 -- its rule at a live checkpoint, a row for each case; no row has 1, 3, 11, 12 or 15
 pub data MaybeIs (k s : St) (n : ℕ) : Whole Restoring → Type 0 where
-  little : savings (k .rec .used) (s .rec) < 1024 → MaybeIs k s n (answer aborted s)
-  invalid : 1024 ≤ savings (k .rec .used) (s .rec) → (ValidIn s n → ⊥) → MaybeIs k s n (refusal 5 s)
-  before : {s′ : St} → 1024 ≤ savings (k .rec .used) (s .rec) → ValidIn s n → ValidIn k n
+  little : savedBy k s < 1024 → MaybeIs k s n (answer aborted s)
+  invalid : 1024 ≤ savedBy k s → (ValidIn s n → ⊥) → MaybeIs k s n (refusal 5 s)
+  before : {s′ : St} → 1024 ≤ savedBy k s → ValidIn s n → ValidIn k n
       → Cut 0 0 k s s′ → Stands s n n s′ → MaybeIs k s n (answer noReplace s′)
-  later-pair : (i : ℕ) → 1024 ≤ savings (k .rec .used) (s .rec) → view n ≡ pairAt i → k .rec .used .pairs ≤ i → i < s .rec .used .pairs
+  later-pair : (i : ℕ) → 1024 ≤ savedBy k s → view n ≡ pairAt i → k .rec .used .pairs ≤ i → i < s .rec .used .pairs
       → MaybeIs k s n (answer aborted s)
-  old-bytes : {s′ : St} (i : ℕ) → 1024 ≤ savings (k .rec .used) (s .rec) → Later k s n i → from s i < k .rec .used .bytes
+  old-bytes : {s′ : St} (i : ℕ) → 1024 ≤ savedBy k s → Later k s n i → from s i < k .rec .used .bytes
       → Cut 1 0 k s s′ → Stands s n (bytesNode (k .rec .used .atoms)) s′ → MaybeIs k s n (answer (replace (bytesNode (k .rec .used .atoms))) s′)
-  too-long : (i : ℕ) → 1024 ≤ savings (k .rec .used) (s .rec) → Later k s n i → k .rec .used .bytes ≤ from s i → 48 < to s i - from s i
+  too-long : (i : ℕ) → 1024 ≤ savedBy k s → Later k s n i → k .rec .used .bytes ≤ from s i → 48 < to s i - from s i
       → MaybeIs k s n (answer aborted s)
-  over-limit : (i : ℕ) → 1024 ≤ savings (k .rec .used) (s .rec) → Later k s n i → k .rec .used .bytes ≤ from s i → to s i - from s i ≤ 48
+  over-limit : (i : ℕ) → 1024 ≤ savedBy k s → Later k s n i → k .rec .used .bytes ≤ from s i → to s i - from s i ≤ 48
       → s .rec .limit < heap (s .rec) → MaybeIs k s n (refusal 2 s)
-  new-small : {s′ : St} (i v : ℕ) → 1024 ≤ savings (k .rec .used) (s .rec) → Later k s n i → k .rec .used .bytes ≤ from s i → to s i - from s i ≤ 48
+  new-small : {s′ : St} (i v : ℕ) → 1024 ≤ savedBy k s → Later k s n i → k .rec .used .bytes ≤ from s i → to s i - from s i ≤ 48
       → heap (s .rec) ≤ s .rec .limit → fits (slice (from s i) (to s i) (s .lists .bytes)) ≡ some v
       → Cut 0 0 k s s′ → Stands s n (smallNode v) s′ → MaybeIs k s n (answer (replace (smallNode v)) s′)
-  new-bytes : {s′ : St} (i : ℕ) → 1024 ≤ savings (k .rec .used) (s .rec) → Later k s n i → k .rec .used .bytes ≤ from s i → to s i - from s i ≤ 48
+  new-bytes : {s′ : St} (i : ℕ) → 1024 ≤ savedBy k s → Later k s n i → k .rec .used .bytes ≤ from s i → to s i - from s i ≤ 48
       → heap (s .rec) ≤ s .rec .limit → fits (slice (from s i) (to s i) (s .lists .bytes)) ≡ none
       → Cut 1 (to s i - from s i) k s s′ → Stands s n (bytesNode (k .rec .used .atoms)) s′
       → MaybeIs k s n (answer (replace (bytesNode (k .rec .used .atoms))) s′)
@@ -140,9 +148,11 @@ row (new-bytes i h l a b c e d t) = 9
 pub record Kept (k s : St) : Type 0 where
   -- "no restore gets 11 or 12"
   pub usable : (way : Way) → (codeOf (restore way k s .said) ≢ 11) × (codeOf (restore way k s .said) ≢ 12)
-  -- "each node valid when it was taken reads as the same tree", by the calls; and it is valid still
+  -- "each node valid when it was taken reads as the same tree": it is valid still, by the calls it reads as that tree,
+  -- every read call answers for it as it did then, and the definition of its tree says the same
   pub valid : (n : ℕ) → ValidIn k n → ValidIn s n
   pub reads : (n : ℕ) (t : Tree) → ValidIn k n → ReadsAs k n t → ReadsAs s n t
+  pub answers : (n : ℕ) → ValidIn k n → SameAnswers k s n
   pub trees : (n : ℕ) → ValidIn k n → tree (s .lists) n ≡ tree (k .lists) n
   pub plain-is : Plain k (plain k s)
   pub transparent-is : Transparent k s (transparent k s)

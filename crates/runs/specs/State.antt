@@ -9,7 +9,7 @@ use Rattle.rules.specs.declared.Counts.{Counts}
 use Rattle.rules.specs.declared.Allocator.{Allocator}
 use Rattle.rules.specs.declared.Checkpoint.{Checkpoint}
 use Rattle.rules.specs.Small.{Octets}
-use Rattle.rules.specs.Said.{Said, saysOf, Done, done, NoLists, Out}
+use Rattle.rules.specs.Said.{Said, saysOf, Done, NoLists, Out}
 use Rattle.rules.specs.State.{Lists, lists, Store, store, PairSlots}
 use Rattle.rules.specs.Reads.{checkpointOf}
 use Rattle.rules.specs.Creates as C
@@ -94,23 +94,23 @@ pub data Making : Type 0 where
   ghost-atoms : ℕ → Making
 
 -- the node that it makes; a ghost call makes none
-abbrev pub noded : Whole ℕ → Whole (Option ℕ)
-noded o = record { said = saysOf some (o .said); next = o .next }
+abbrev pub answersNode : Whole ℕ → Whole (Option ℕ)
+answersNode o = record { said = saysOf some (o .said); next = o .next }
 
-abbrev pub ghostly : Whole Done → Whole (Option ℕ)
-ghostly o = record { said = saysOf (λ d. none) (o .said); next = o .next }
+abbrev pub answersNone : Whole Done → Whole (Option ℕ)
+answersNone o = record { said = saysOf (λ d. none) (o .said); next = o .next }
 
 abbrev pub call : Making → St → Whole (Option ℕ)
-call (atom v o) s = noded (newAtom v s)
-call (small-number v) s = noded (newSmallNumber v s)
-call (u64 x h) s = noded (newU64 x s)
-call (i64 z h) s = noded (newI64 z s)
-call (pair first rest) s = noded (newPair first rest s)
-call (substr n start end) s = noded (newSubstr n start end s)
-call (concat size ns) s = noded (newConcat size ns s)
-call (ghost-pairs amount) s = ghostly (addGhostPair amount s)
-call (fewer-ghost-pairs amount) s = ghostly (removeGhostPair amount s)
-call (ghost-atoms amount) s = ghostly (addGhostAtom amount s)
+call (atom v o) s = answersNode (newAtom v s)
+call (small-number v) s = answersNode (newSmallNumber v s)
+call (u64 x h) s = answersNode (newU64 x s)
+call (i64 z h) s = answersNode (newI64 z s)
+call (pair first rest) s = answersNode (newPair first rest s)
+call (substr n start end) s = answersNode (newSubstr n start end s)
+call (concat size ns) s = answersNode (newConcat size ns s)
+call (ghost-pairs amount) s = answersNone (addGhostPair amount s)
+call (fewer-ghost-pairs amount) s = answersNone (removeGhostPair amount s)
+call (ghost-atoms amount) s = answersNone (addGhostAtom amount s)
 
 -- the state that it leaves
 abbrev pub make : Making → St → St

@@ -1,0 +1,24 @@
+-- `text::put_head` meets its contract: the bytes of the header. Assumes nothing.
+use Rattle.text.specs.Text.{headText}
+use borrow.Author.Needs.{needs}
+use Rattle.text.proofs.put_head.Statement.{statement}
+use Rattle.text.proofs.put_head.Tie as tie
+use Rattle.text.proofs.put_head.Reads as reads
+use Rattle.text.proofs.put_head.Lts as lts
+use Rattle.text.proofs.put.Reads as put-reads
+
+slice-aggregate-put : tie.Need-slice-aggregate-put
+slice-aggregate-put c = search needs
+
+put-requires : tie.Need-put-requires
+put-requires c κs = search needs
+
+same-length : tie.Need-same-length
+same-length c = search needs
+
+returns : tie.Need-returns
+unfolding headText
+returns c = (c .before .before .put .ensures, c .before .before .put .ensures .end)
+
+pub put-head-spec : {M : Type 1} → statement M
+put-head-spec = tie.close (tie.spec slice-aggregate-put put-requires same-length returns)

@@ -1,0 +1,34 @@
+-- `trace::creating::atom` meets its contract: what the call leaves. Assumes nothing.
+use Rattle.trace.specs.Machine.{onStore, didMake}
+use Rattle.rules.specs.State.{lists, atomSlots}
+use mathlib.Core.Path.{ap}
+use borrow.Author.Needs.{needs}
+use Rattle.trace.proofs.creating.atom.Statement.{statement}
+use Rattle.trace.proofs.creating.atom.Tie as tie
+use Rattle.trace.proofs.creating.atom.Reads as reads
+use Rattle.trace.proofs.creating.atom.Lts as lts
+use Rattle.creates.proofs.atom.new_atom.Reads as new-atom-reads
+use Rattle.trace.proofs.machine.make.Reads as make-reads
+
+new-atom-requires : tie.Need-new-atom-requires
+new-atom-requires c κs = search needs
+
+make-requires : tie.Need-make-requires
+make-requires c κs = search needs
+
+same-length : tie.Need-same-length
+same-length c = search needs
+
+same-length-2 : tie.Need-same-length-2
+same-length-2 c = search needs
+
+same-length-3 : tie.Need-same-length-3
+same-length-3 c = search needs
+
+returns : tie.Need-returns
+returns c = λ q. simp (c .make .ensures) (ap (onStore (didMake (c .before .before .before .before .before .before .before .before .before .before .before .before .before .before .before .before .args .m)) (lists (c .before .before .before .before .before .before .before .before .before .before .before .before .before .before .before .before .args .bytes .now) (atomSlots (c .before .before .before .before .before .before .before .before .before .before .before .before .before .before .before .before .args .starts .now) (c .before .before .before .before .before .before .before .before .before .before .before .before .before .before .before .before .args .ends .now)) q)) (c .before .before .before .before .before .before .before .new-atom .ensures))
+
+pub atom-spec : {M : Type 1} → statement M
+atom-spec =
+    tie.close
+    (tie.spec new-atom-requires make-requires same-length same-length-2 same-length-3 returns)

@@ -1,0 +1,24 @@
+-- `trace::creating::mark` meets its contract: the payload's length, then the call. Assumes nothing.
+use borrow.Author.Tests.{eq-eqb, ne-eqb}
+use borrow.Author.Needs.{needs}
+use Rattle.trace.proofs.creating.mark.Statement.{statement}
+use Rattle.trace.proofs.creating.mark.Tie as tie
+use Rattle.trace.proofs.creating.mark.Reads as reads
+use Rattle.trace.proofs.creating.mark.Lts as lts
+use Rattle.trace.proofs.machine.bad.Reads as bad-reads
+use Rattle.trace.proofs.machine.take.Reads as take-reads
+
+bad-requires : tie.Need-bad-requires
+bad-requires c κs = search needs
+
+returns : tie.Need-returns
+returns c = λ l. simp (ne-eqb _ _ (c .before .if1 .taken), c .bad .ensures)
+
+take-requires : tie.Need-take-requires
+take-requires c κs = search needs
+
+returns-2 : tie.Need-returns-2
+returns-2 c = λ l. simp (eq-eqb _ _ (c .before .if1 .left), c .take .ensures)
+
+pub mark-spec : {M : Type 1} → statement M
+mark-spec = tie.close (tie.spec bad-requires returns take-requires returns-2)

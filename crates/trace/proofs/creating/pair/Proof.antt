@@ -1,0 +1,55 @@
+-- `trace::creating::pair` meets its contract: the payload's length, then the call. Assumes nothing.
+use Rattle.trace.specs.Machine.{onPairs, didMake}
+use Rattle.rules.specs.State.{lists, pairSlots}
+use borrow.Author.Tests.{eq-eqb, ne-eqb}
+use mathlib.Core.Path.{ap}
+use borrow.Author.Needs.{needs}
+use Rattle.trace.proofs.creating.pair.Statement.{statement}
+use Rattle.trace.proofs.creating.pair.Tie as tie
+use Rattle.trace.proofs.creating.pair.Reads as reads
+use Rattle.trace.proofs.creating.pair.Lts as lts
+use Rattle.creates.proofs.pair.new_pair.Reads as new-pair-reads
+use Rattle.trace.proofs.fields.u32_at.Reads as u32-at-reads
+use Rattle.trace.proofs.machine.bad.Reads as bad-reads
+use Rattle.trace.proofs.machine.make.Reads as make-reads
+
+bad-requires : tie.Need-bad-requires
+bad-requires c κs = search needs
+
+returns : tie.Need-returns
+returns c = λ b t. simp (ne-eqb _ _ (c .before .if1 .taken), c .bad .ensures)
+
+u32-at-requires : tie.Need-u32-at-requires
+u32-at-requires c κs = search needs
+
+u32-at-requires-2 : tie.Need-u32-at-requires-2
+u32-at-requires-2 c κs = search needs
+
+new-pair-requires : tie.Need-new-pair-requires
+new-pair-requires c κs = search needs
+
+make-requires : tie.Need-make-requires
+make-requires c κs = search needs
+
+same-length : tie.Need-same-length
+same-length c = search needs
+
+same-length-2 : tie.Need-same-length-2
+same-length-2 c = search needs
+
+returns-2 : tie.Need-returns-2
+returns-2 c = λ b t. simp (eq-eqb _ _ (c .before .before .before .before .before .before .before .before .before .before .before .if1 .left), c .make .ensures, ← (c .before .before .before .before .before .before .before .before .before .u32-at .ensures), ← (c .before .before .before .before .before .before .before .before .u32-at2 .ensures)) (ap (onPairs (didMake (c .before .before .before .before .before .before .before .before .before .before .before .before .before .before .before .args .m)) (lists b t (pairSlots (c .before .before .before .before .before .before .before .before .before .before .before .before .before .before .before .args .firsts .now) (c .before .before .before .before .before .before .before .before .before .before .before .before .before .before .before .args .rests .now)))) (c .before .before .before .before .before .new-pair .ensures))
+
+pub pair-spec : {M : Type 1} → statement M
+pair-spec =
+    tie.close
+    (tie.spec
+    bad-requires
+    returns
+    u32-at-requires
+    u32-at-requires-2
+    new-pair-requires
+    make-requires
+    same-length
+    same-length-2
+    returns-2)

@@ -1,0 +1,42 @@
+-- `trace::creating::small_number` meets its contract: the payload's length, then the call. Assumes nothing.
+use Rattle.trace.specs.Machine.{alone, didMake}
+use borrow.Author.Tests.{eq-eqb, ne-eqb}
+use mathlib.Core.Path.{ap}
+use borrow.Author.Needs.{needs}
+use Rattle.trace.proofs.creating.small_number.Statement.{statement}
+use Rattle.trace.proofs.creating.small_number.Tie as tie
+use Rattle.trace.proofs.creating.small_number.Reads as reads
+use Rattle.trace.proofs.creating.small_number.Lts as lts
+use Rattle.creates.proofs.atom.new_small_number.Reads as new-small-number-reads
+use Rattle.trace.proofs.fields.u32_at.Reads as u32-at-reads
+use Rattle.trace.proofs.machine.bad.Reads as bad-reads
+use Rattle.trace.proofs.machine.make.Reads as make-reads
+
+bad-requires : tie.Need-bad-requires
+bad-requires c κs = search needs
+
+returns : tie.Need-returns
+returns c = λ l. simp (ne-eqb _ _ (c .before .if1 .taken), c .bad .ensures)
+
+u32-at-requires : tie.Need-u32-at-requires
+u32-at-requires c κs = search needs
+
+new-small-number-requires : tie.Need-new-small-number-requires
+new-small-number-requires c κs = search needs
+
+make-requires : tie.Need-make-requires
+make-requires c κs = search needs
+
+returns-2 : tie.Need-returns-2
+returns-2 c = λ l. simp (eq-eqb _ _ (c .before .before .before .before .if1 .left), c .make .ensures, ← (c .before .before .u32-at .ensures)) (ap (alone (didMake (c .before .before .before .before .before .before .args .m)) l) (c .before .new-small-number .ensures))
+
+pub small-number-spec : {M : Type 1} → statement M
+small-number-spec =
+    tie.close
+    (tie.spec
+    bad-requires
+    returns
+    u32-at-requires
+    new-small-number-requires
+    make-requires
+    returns-2)

@@ -1,0 +1,63 @@
+-- `trace::creating::substr` meets its contract: the payload's length, then the call. Assumes nothing.
+use Rattle.trace.specs.Machine.{onStore, didMake}
+use Rattle.rules.specs.State.{lists, atomSlots}
+use borrow.Author.Tests.{eq-eqb, ne-eqb}
+use mathlib.Core.Path.{ap}
+use borrow.Author.Needs.{needs}
+use Rattle.trace.proofs.creating.substr.Statement.{statement}
+use Rattle.trace.proofs.creating.substr.Tie as tie
+use Rattle.trace.proofs.creating.substr.Reads as reads
+use Rattle.trace.proofs.creating.substr.Lts as lts
+use Rattle.creates.proofs.substr.new_substr.Reads as new-substr-reads
+use Rattle.trace.proofs.fields.u32_at.Reads as u32-at-reads
+use Rattle.trace.proofs.machine.bad.Reads as bad-reads
+use Rattle.trace.proofs.machine.make.Reads as make-reads
+
+bad-requires : tie.Need-bad-requires
+bad-requires c κs = search needs
+
+returns : tie.Need-returns
+returns c = λ q. simp (ne-eqb _ _ (c .before .if1 .taken), c .bad .ensures)
+
+u32-at-requires : tie.Need-u32-at-requires
+u32-at-requires c κs = search needs
+
+u32-at-requires-2 : tie.Need-u32-at-requires-2
+u32-at-requires-2 c κs = search needs
+
+u32-at-requires-3 : tie.Need-u32-at-requires-3
+u32-at-requires-3 c κs = search needs
+
+new-substr-requires : tie.Need-new-substr-requires
+new-substr-requires c κs = search needs
+
+make-requires : tie.Need-make-requires
+make-requires c κs = search needs
+
+same-length : tie.Need-same-length
+same-length c = search needs
+
+same-length-2 : tie.Need-same-length-2
+same-length-2 c = search needs
+
+same-length-3 : tie.Need-same-length-3
+same-length-3 c = search needs
+
+returns-2 : tie.Need-returns-2
+returns-2 c = λ q. simp (eq-eqb _ _ (c .before .before .before .before .before .before .before .before .before .before .before .before .before .before .before .if1 .left), c .make .ensures, ← (c .before .before .before .before .before .before .before .before .before .before .before .before .before .u32-at .ensures), ← (c .before .before .before .before .before .before .before .before .before .before .before .before .u32-at2 .ensures), ← (c .before .before .before .before .before .before .before .before .before .before .before .u32-at3 .ensures)) (ap (onStore (didMake (c .before .before .before .before .before .before .before .before .before .before .before .before .before .before .before .before .before .before .before .before .args .m)) (lists (c .before .before .before .before .before .before .before .before .before .before .before .before .before .before .before .before .before .before .before .before .args .bytes .now) (atomSlots (c .before .before .before .before .before .before .before .before .before .before .before .before .before .before .before .before .before .before .before .before .args .starts .now) (c .before .before .before .before .before .before .before .before .before .before .before .before .before .before .before .before .before .before .before .before .args .ends .now)) q)) (c .before .before .before .before .before .before .before .new-substr .ensures))
+
+pub substr-spec : {M : Type 1} → statement M
+substr-spec =
+    tie.close
+    (tie.spec
+    bad-requires
+    returns
+    u32-at-requires
+    u32-at-requires-2
+    u32-at-requires-3
+    new-substr-requires
+    make-requires
+    same-length
+    same-length-2
+    same-length-3
+    returns-2)

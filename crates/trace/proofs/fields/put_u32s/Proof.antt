@@ -1,0 +1,76 @@
+-- `trace::fields::put_u32s` meets its contract: the numbers so far stand at the front. Assumes nothing.
+use borrow.Author.Needs.{needs}
+use Rattle.trace.specs.Bytes.{u32sTo}
+use lib.Seq.{take-suc-set, length-take-le}
+use lib.ListN.{length, take, length-set}
+use native.Mathlib.Omega.{arith}
+use native.Mathlib.Numerals.{add-one}
+use Prim.Native.Nat.{ℕ, _+_, _*_, _/_, _-_, _≤_, _<_}
+use mathlib.Core.List.{List, [], _∷_, _++_}
+use mathlib.Core.Path.{_≡_, refl, sym, ap, ap₂, _∙_}
+use Rattle.trace.proofs.fields.put_u32s.Statement.{statement}
+use Rattle.trace.proofs.fields.put_u32s.Tie as tie
+use Rattle.trace.proofs.fields.put_u32s.Reads as reads
+use Rattle.trace.proofs.fields.put_u32s.Lts as lts
+use Rattle.trace.proofs.fields.u32_at.Reads as u32-at-reads
+
+abbrev Inv-loop : tie.InvT-loop
+Inv-loop out₀ s n i₀ out i = (i ≤ n) × (n ≡ length s / 4) × (length out ≡ length out₀) × (take i out ≡ u32sTo i s) × (n ≤ length out₀)
+
+abbrev μ-loop : tie.MeasureT-loop
+μ-loop out₀ s n i₀ out i = n - i
+
+loop-holds : tie.Need-loop-holds Inv-loop μ-loop
+unfolding u32sTo
+loop-holds c = (omega arith, refl, refl, refl, omega arith)
+
+mul-u32-at : tie.Need-mul-u32-at Inv-loop μ-loop
+mul-u32-at c = omega arith
+
+u32-at-requires : tie.Need-u32-at-requires Inv-loop μ-loop
+u32-at-requires c κs = omega arith
+
+mul-out : tie.Need-mul-out Inv-loop μ-loop
+mul-out c = search needs
+
+slice-write-out : tie.Need-slice-write-out Inv-loop μ-loop
+slice-write-out c = omega (arith, c .before .before .loop .inv)
+
+add-i : tie.Need-add-i Inv-loop μ-loop
+add-i c = omega (arith, c .before .before .loop .inv)
+
+loop-less : tie.Need-loop-less Inv-loop μ-loop
+loop-less c = omega (arith, c .before .before .loop .inv)
+
+loop-again : tie.Need-loop-again Inv-loop μ-loop
+unfolding u32sTo
+loop-again c =
+    let v = c .before .before .loop .inv in
+    let h : c .before .before .loop .i < length (c .before .before .loop .out) = omega (arith, v) in
+    (omega (arith, c .before .loop-test .taken), v .1, simp length-set (v .2), rw (add-one, take-suc-set (c .before .before .loop .out) (c .before .before .loop .i) (c .u32-at .result) h) (ap₂ (λ (a : List ℕ) (b : ℕ). a ++ (b ∷ [])) (v .3) (c .u32-at .ensures)), v .4)
+
+same-length : tie.Need-same-length Inv-loop μ-loop
+same-length c = c .before .loop .inv .2
+
+returns : tie.Need-returns Inv-loop μ-loop
+returns c =
+    let v = c .before .loop .inv in
+    let e : c .before .loop .i ≡ length (c .before .before .before .before .args .s .now) / 4 = omega (arith, v) in
+    (rw e at (v .3), (omega (arith, v), sym (length-take-le (length (c .before .before .before .before .args .s .now) / 4) (c .before .loop .out) (omega (arith, v)))))
+
+pub put-u32s-spec : {M : Type 1} → statement M
+put-u32s-spec =
+    tie.close
+    (tie.spec
+    Inv-loop
+    μ-loop
+    loop-holds
+    mul-u32-at
+    u32-at-requires
+    mul-out
+    slice-write-out
+    add-i
+    loop-less
+    loop-again
+    same-length
+    returns)

@@ -1,0 +1,46 @@
+-- `trace::fields::u16_at` meets its contract: a byte is below 256. Assumes nothing.
+use native.Mathlib.Omega.{arith}
+use Prim.Native.Nat.{_+_}
+use borrow.Author.Needs.{needs}
+use Rattle.trace.proofs.fields.u16_at.Statement.{statement}
+use Rattle.trace.proofs.fields.u16_at.Tie as tie
+use Rattle.trace.proofs.fields.u16_at.Reads as reads
+use Rattle.trace.proofs.fields.u16_at.Lts as lts
+use Rattle.trace.proofs.fields.wide.Reads as wide-reads
+
+shared-slice-read-wide : tie.Need-shared-slice-read-wide
+shared-slice-read-wide c = search needs
+
+wide-requires : tie.Need-wide-requires
+wide-requires c κs = search needs
+
+add-wide : tie.Need-add-wide
+add-wide c = search needs
+
+shared-slice-read-wide-2 : tie.Need-shared-slice-read-wide-2
+shared-slice-read-wide-2 c = search needs
+
+wide-requires-2 : tie.Need-wide-requires-2
+wide-requires-2 c κs = search needs
+
+mul-result : tie.Need-mul-result
+mul-result c = omega (arith, c .wide2 .ensures, c .before .before .before .before .shared-slice-known .given (c .before .before .before .before .before .args .i + 1))
+
+add-result : tie.Need-add-result
+add-result c = omega (arith, c .wide2 .ensures, c .before .before .wide .ensures, c .before .before .before .before .shared-slice-known .given (c .before .before .before .before .before .args .i), c .before .before .before .before .shared-slice-known .given (c .before .before .before .before .before .args .i + 1))
+
+returns : tie.Need-returns
+returns c = (simp (c .wide2 .ensures, c .before .before .wide .ensures), omega (arith, c .wide2 .ensures, c .before .before .wide .ensures, c .before .before .before .before .shared-slice-known .given (c .before .before .before .before .before .args .i), c .before .before .before .before .shared-slice-known .given (c .before .before .before .before .before .args .i + 1)))
+
+pub u16-at-spec : {M : Type 1} → statement M
+u16-at-spec =
+    tie.close
+    (tie.spec
+    shared-slice-read-wide
+    wide-requires
+    add-wide
+    shared-slice-read-wide-2
+    wide-requires-2
+    mul-result
+    add-result
+    returns)

@@ -1,0 +1,16 @@
+-- `trace::machine::fresh` meets its contract: what a fresh record is. Assumes nothing.
+use borrow.Author.Needs.{needs}
+use Rattle.trace.proofs.machine.fresh.Statement.{statement}
+use Rattle.trace.proofs.machine.fresh.Tie as tie
+use Rattle.trace.proofs.machine.fresh.Reads as reads
+use Rattle.trace.proofs.machine.fresh.Lts as lts
+use Rattle.state.proofs.record.fresh.Reads as fresh-reads
+
+fresh-requires : tie.Need-fresh-requires
+fresh-requires c κs = search needs
+
+returns : tie.Need-returns
+returns c = simp (c .fresh .ensures)
+
+pub fresh-spec : {M : Type 1} → statement M
+fresh-spec = tie.close (tie.spec fresh-requires returns)

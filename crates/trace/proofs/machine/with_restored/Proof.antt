@@ -1,0 +1,19 @@
+-- `trace::machine::with_restored` meets its contract: what was saved. Assumes nothing.
+use borrow.Author.Needs.{needs}
+use Rattle.trace.proofs.machine.with_restored.Statement.{statement}
+use Rattle.trace.proofs.machine.with_restored.Tie as tie
+use Rattle.trace.proofs.machine.with_restored.Reads as reads
+use Rattle.trace.proofs.machine.with_restored.Lts as lts
+use Rattle.trace.proofs.machine.saved.Reads as saved-reads
+
+saved-requires : tie.Need-saved-requires
+saved-requires c κs = search needs
+
+add-released : tie.Need-add-released
+add-released c = search needs
+
+returns : tie.Need-returns
+returns c = simp (c .before .before .saved .ensures .0)
+
+pub with-restored-spec : {M : Type 1} → statement M
+with-restored-spec = tie.close (tie.spec saved-requires add-released returns)

@@ -1,0 +1,62 @@
+-- `trace::restoring::transparent` meets its contract: the payload's length, the number, then the call. Assumes nothing.
+use Rattle.trace.specs.Machine.{alone, didRestore, markAt}
+use Rattle.rules.specs.State.{lists, atomSlots, pairSlots}
+use borrow.Author.Tests.{lt-ltb, le-ltb, eq-eqb, ne-eqb}
+use mathlib.Core.Path.{ap}
+use borrow.Author.Needs.{needs}
+use Rattle.trace.proofs.restoring.transparent.Statement.{statement}
+use Rattle.trace.proofs.restoring.transparent.Tie as tie
+use Rattle.trace.proofs.restoring.transparent.Reads as reads
+use Rattle.trace.proofs.restoring.transparent.Lts as lts
+use Rattle.restores.proofs.restore_transparent_checkpoint.Reads as restore-transparent-checkpoint-reads
+use Rattle.trace.proofs.fields.u16_at.Reads as u16-at-reads
+use Rattle.trace.proofs.machine.back.Reads as back-reads
+use Rattle.trace.proofs.machine.bad.Reads as bad-reads
+use Rattle.trace.proofs.machine.refuse.Reads as refuse-reads
+
+bad-requires : tie.Need-bad-requires
+bad-requires c κs = search needs
+
+returns : tie.Need-returns
+returns c = λ b. simp (ne-eqb _ _ (c .before .if1 .taken), c .bad .ensures)
+
+u16-at-requires : tie.Need-u16-at-requires
+u16-at-requires c κs = search needs
+
+refuse-requires : tie.Need-refuse-requires
+refuse-requires c κs = search needs
+
+returns-2 : tie.Need-returns-2
+returns-2 c = λ b. simp (eq-eqb _ _ (c .before .before .before .if1 .left), ← (c .before .before .u16-at .ensures .0), le-ltb _ _ (c .before .if2 .taken), c .refuse .ensures)
+
+mul-k : tie.Need-mul-k
+mul-k c = search needs
+
+element-copy-out-k : tie.Need-element-copy-out-k
+element-copy-out-k c = search needs
+
+restore-transparent-checkpoint-requires : tie.Need-restore-transparent-checkpoint-requires
+restore-transparent-checkpoint-requires c κs = search needs
+
+back-requires : tie.Need-back-requires
+back-requires c κs = search needs
+
+returns-3 : tie.Need-returns-3
+returns-3 c =
+    let s = c .before .before .before .before .before .before .before .before .before .before .before .before .before .args in
+    λ b. simp (eq-eqb _ _ (c .before .before .before .before .before .before .before .if1 .left), ← (c .before .before .before .before .before .before .u16-at .ensures .0), lt-ltb _ _ (c .before .before .before .before .before .if2 .left), c .back .ensures) (ap (alone (didRestore (s .t1) (markAt (s .t1) (c .before .before .before .before .before .before .u16-at .result) .used)) (lists b (atomSlots (s .starts .now) (s .ends .now)) (pairSlots (s .firsts .now) (s .rests .now)))) (c .before .restore-transparent-checkpoint .ensures))
+
+pub transparent-spec : {M : Type 1} → statement M
+transparent-spec =
+    tie.close
+    (tie.spec
+    bad-requires
+    returns
+    u16-at-requires
+    refuse-requires
+    returns-2
+    mul-k
+    element-copy-out-k
+    restore-transparent-checkpoint-requires
+    back-requires
+    returns-3)

@@ -1,0 +1,34 @@
+-- `trace::step::frame_at` meets its contract: the two tests of length. Assumes nothing.
+use Rattle.trace.specs.Request.{frameOf}
+use borrow.Author.Tests.{lt-ltb, le-ltb}
+use borrow.Author.Needs.{needs}
+use Rattle.trace.proofs.step.frame_at.Statement.{statement}
+use Rattle.trace.proofs.step.frame_at.Tie as tie
+use Rattle.trace.proofs.step.frame_at.Reads as reads
+use Rattle.trace.proofs.step.frame_at.Lts as lts
+use Rattle.trace.proofs.fields.u16_at.Reads as u16-at-reads
+
+returns : tie.Need-returns
+unfolding frameOf
+returns c = simp (lt-ltb _ _ (c .if1 .taken))
+
+u16-at-requires : tie.Need-u16-at-requires
+u16-at-requires c κs = search needs
+
+add-if2 : tie.Need-add-if2
+add-if2 c = search needs
+
+returns-2 : tie.Need-returns-2
+unfolding frameOf
+returns-2 c = simp (le-ltb _ _ (c .before .before .if1 .left), ← (c .before .u16-at .ensures .0), lt-ltb _ _ (c .if2 .taken))
+
+u16-at-requires-2 : tie.Need-u16-at-requires-2
+u16-at-requires-2 c κs = search needs
+
+returns-3 : tie.Need-returns-3
+unfolding frameOf
+returns-3 c = simp (le-ltb _ _ (c .before .before .before .if1 .left), ← (c .before .before .u16-at .ensures .0), ← (c .u16-at2 .ensures .0), le-ltb _ _ (c .before .if2 .left))
+
+pub frame-at-spec : {M : Type 1} → statement M
+frame-at-spec =
+    tie.close (tie.spec returns u16-at-requires add-if2 returns-2 u16-at-requires-2 returns-3)

@@ -1,0 +1,49 @@
+-- One record: what it does, its row, and how many bytes it took.
+use Prim.Native.Nat.{ℕ, _+_}
+use mathlib.Core.Bool.{Bool, true, false, cond}
+use mathlib.Core.List.{List}
+use lib.Dec.{eqb}
+use Rattle.rules.specs.State.{Lists, atoms, pairs, heap}
+use Rattle.text.specs.declared.Row.{Row}
+use Rattle.trace.specs.declared.machine.Machine.{Machine}
+use Rattle.trace.specs.declared.machine.Did.{Did}
+use Rattle.trace.specs.declared.step.Step.{Step}
+use Rattle.trace.specs.Request.{frameOf, frameSize, requestAt}
+use Rattle.trace.specs.Machine.{Acted, actOf}
+
+-- record number from 1, code, node, and the totals after the record: used + ghost
+abbrev pub rowOf : Did → ℕ → Row
+rowOf d n = record {
+  n = n;
+  code = d .code;
+  node = d .node;
+  atoms = atoms (d .machine .state);
+  pairs = pairs (d .machine .state);
+  heap = heap (d .machine .state);
+}
+
+-- one row more is shown
+abbrev pub withRow : Machine → Machine
+withRow m = record { state = m .state; shown = m .shown + 1; released = m .released; taken = m .taken; marks = m .marks }
+
+-- 16 ends the run: the record then takes no bytes
+abbrev pub closed : Did → ℕ → Step
+closed d size = record {
+  machine = withRow (d .machine);
+  row = rowOf d (d .machine .shown + 1);
+  size = cond (eqb (d .code) 16) 0 size;
+}
+
+pub record Stepped : Type 0 where
+  pub step : Step
+  pub left : Lists
+
+abbrev pub stepped : Step → Lists → Stepped
+stepped t l = record { step = t; left = l }
+
+abbrev pub closedOn : Acted → ℕ → Stepped
+closedOn a size = stepped (closed (a .did) size) (a .left)
+
+-- the record at the front of the input i
+abbrev pub stepOn : Machine → Lists → List ℕ → Stepped
+stepOn m l i = closedOn (actOf m l (requestAt i)) (frameSize (frameOf i))

@@ -1,0 +1,45 @@
+// The request program: standard input in, its text out.
+use crate::rows;
+use libc::STDIN_FILENO;
+ghost use mathlib.Core.Path.{_≡_};
+ghost use lib.ListN.{length};
+
+// One byte more than the longest input, so that a longer one is seen.
+fn input_buffer() -> [u8; 65537]
+    ensures { λ r. ⌜ 65537 ≡ length r ⌝ }
+{
+    [0; 65537]
+}
+
+fn byte_store() -> [u8; 32768]
+    ensures { λ r. ⌜ 32768 ≡ length r ⌝ }
+{
+    [0; 32768]
+}
+
+fn slots() -> [u32; 2048]
+    ensures { λ r. ⌜ 2048 ≡ length r ⌝ }
+{
+    [0; 2048]
+}
+
+// Reads records and prints their rows, with the stores of document 01.
+pub fn replay() {
+    let mut input = input_buffer();
+    let n = io::read_full(STDIN_FILENO, &mut input);
+    let mut bytes = byte_store();
+    let mut starts = slots();
+    let mut ends = slots();
+    let mut firsts = slots();
+    let mut rests = slots();
+    let mut out = io::large_buffer();
+    rows::print(
+        &mut bytes,
+        &mut starts,
+        &mut ends,
+        &mut firsts,
+        &mut rests,
+        &input[..n],
+        &mut out,
+    );
+}
