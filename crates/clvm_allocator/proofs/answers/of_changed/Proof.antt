@@ -1,0 +1,20 @@
+-- `clvm_allocator::answers::of_changed` meets its contract: each arm is told its case, and the definition computes on it.
+use borrow.Author.Needs.{needs}
+use Rattle.clvm_allocator.proofs.answers.of_changed.Statement.{statement}
+use Rattle.clvm_allocator.proofs.answers.of_changed.Tie as tie
+
+returns : tie.Need-returns
+returns c = simp (c .enum-told .given .1)
+
+returns-2 : tie.Need-returns-2
+returns-2 c = simp (c .number-of .ensures, c .before .before .verdict .given .1)
+
+pub of-changed-spec : {M : Type 1} → statement M
+of-changed-spec =
+    tie.close
+    (tie.spec
+    (λ c. search needs)
+    (λ c. search needs)
+    (λ c κs. search needs)
+    returns
+    returns-2)

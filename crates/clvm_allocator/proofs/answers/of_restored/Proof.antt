@@ -1,0 +1,30 @@
+-- `clvm_allocator::answers::of_restored` meets its contract: each arm is told its case, and the definition computes on it.
+use borrow.Author.Needs.{needs}
+use Rattle.clvm_allocator.proofs.answers.of_restored.Statement.{statement}
+use Rattle.clvm_allocator.proofs.answers.of_restored.Tie as tie
+
+returns : tie.Need-returns
+returns c = simp (c .enum-told .given .1)
+
+returns-2 : tie.Need-returns-2
+returns-2 c = simp (c .before .answer .given .1)
+
+returns-3 : tie.Need-returns-3
+returns-3 c = simp (c .enum-told2 .given .1)
+
+returns-4 : tie.Need-returns-4
+returns-4 c = simp (c .number-of .ensures, c .before .before .answer2 .given .1)
+
+pub of-restored-spec : {M : Type 1} → statement M
+of-restored-spec =
+    tie.close
+    (tie.spec
+    (λ c. search needs)
+    (λ c. search needs)
+    (λ c. search needs)
+    (λ c. search needs)
+    (λ c κs. search needs)
+    returns
+    returns-2
+    returns-3
+    returns-4)

@@ -1,0 +1,21 @@
+-- `clvm_allocator::creation::clvm_new_pair` meets its contract: what the call beneath promises, as numbers.
+use mathlib.Core.Path.{ap, _∙_}
+use Rattle.clvm_allocator.specs.Answers.{madeC}
+use borrow.Author.Needs.{needs}
+use Rattle.clvm_allocator.proofs.creation.clvm_new_pair.Statement.{statement}
+use Rattle.clvm_allocator.proofs.creation.clvm_new_pair.Tie as tie
+
+returns : tie.Need-returns
+returns c =
+    let told = c .before .before .before .before .before .new-pair .ensures in
+    (c .of-made .ensures ∙ ap madeC told, ap (λ o. o .lent) told)
+
+pub clvm-new-pair-spec : {M : Type 1} → statement M
+clvm-new-pair-spec =
+    tie.close
+    (tie.spec
+    (λ c κs. search needs)
+    (λ c κs. search needs)
+    (λ c. search needs)
+    (λ c. search needs)
+    returns)

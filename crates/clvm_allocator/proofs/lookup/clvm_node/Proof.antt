@@ -1,0 +1,12 @@
+-- `clvm_allocator::lookup::clvm_node` meets its contract: what the call beneath promises, as numbers.
+use mathlib.Core.Path.{ap, _∙_}
+use Rattle.clvm_allocator.specs.Answers.{visitedC}
+use borrow.Author.Needs.{needs}
+use Rattle.clvm_allocator.proofs.lookup.clvm_node.Statement.{statement}
+use Rattle.clvm_allocator.proofs.lookup.clvm_node.Tie as tie
+
+returns : tie.Need-returns
+returns c = c .of-visitor .ensures ∙ ap visitedC (c .before .node .ensures)
+
+pub clvm-node-spec : {M : Type 1} → statement M
+clvm-node-spec = tie.close (tie.spec (λ c κs. search needs) (λ c κs. search needs) returns)

@@ -1,0 +1,12 @@
+-- `clvm_allocator::lookup::clvm_sexp` meets its contract: what the call beneath promises, as numbers.
+use mathlib.Core.Path.{ap, _∙_}
+use Rattle.clvm_allocator.specs.Answers.{childrenC}
+use borrow.Author.Needs.{needs}
+use Rattle.clvm_allocator.proofs.lookup.clvm_sexp.Statement.{statement}
+use Rattle.clvm_allocator.proofs.lookup.clvm_sexp.Tie as tie
+
+returns : tie.Need-returns
+returns c = c .of-sexp .ensures ∙ ap childrenC (c .before .sexp .ensures)
+
+pub clvm-sexp-spec : {M : Type 1} → statement M
+clvm-sexp-spec = tie.close (tie.spec (λ c κs. search needs) (λ c κs. search needs) returns)

@@ -1,0 +1,117 @@
+-- What crosses to C: each answer of the rules as numbers. A refusal has its code and node, and no value; an accepted answer has code 0,
+-- and nil where it makes no node.
+use Prim.Native.Nat.{ℕ, _-_}
+use mathlib.Core.Bool.{Bool, true, false}
+use mathlib.Core.Option.{Option, none, some}
+use Rattle.rules.specs.declared.Counts.{Counts}
+use Rattle.rules.specs.declared.Allocator.{Allocator}
+use Rattle.rules.specs.declared.Checkpoint.{Checkpoint}
+use Rattle.rules.specs.Node.{nil}
+use Rattle.rules.specs.Small.{lenFor}
+use Rattle.rules.specs.Said.{Said, says, refuses, Done, done, Out}
+use Rattle.rules.specs.State.{counts}
+use Rattle.rules.specs.Reads.{Kind, pairKind, bytesKind, smallKind, Atom, range, value, Visited, buffer, number, children, Sexp, atomic, branch, Status, before, afterNewBytes, afterOldBytes}
+use Rattle.rules.specs.Restores.{Restoring, noReplace, replace, aborted}
+use Rattle.clvm_allocator.specs.declared.answers.CNumber.{CNumber}
+use Rattle.clvm_allocator.specs.declared.answers.COption.{COption}
+use Rattle.clvm_allocator.specs.declared.answers.CVisited.{CVisited}
+use Rattle.clvm_allocator.specs.declared.answers.CChildren.{CChildren}
+use Rattle.clvm_allocator.specs.declared.answers.CPart.{CPart}
+use Rattle.clvm_allocator.specs.declared.answers.CStatus.{CStatus}
+use Rattle.clvm_allocator.specs.declared.answers.CTaken.{CTaken}
+use Rattle.clvm_allocator.specs.declared.answers.CMarked.{CMarked}
+use Rattle.clvm_allocator.specs.declared.answers.CMade.{CMade}
+use Rattle.clvm_allocator.specs.declared.answers.CChanged.{CChanged}
+use Rattle.clvm_allocator.specs.declared.answers.CRestored.{CRestored}
+
+-- yes is 1, no is 0
+abbrev pub bit : Bool → ℕ
+bit true = 1
+bit false = 0
+
+-- the kinds, as a node's top bits number them
+abbrev pub kindNumber : Kind → ℕ
+kindNumber pairKind = 0
+kindNumber bytesKind = 1
+kindNumber smallKind = 2
+
+-- a number
+abbrev pub numberC : Said ℕ → CNumber
+numberC (says x) = record { code = 0; node = nil; value = x }
+numberC (refuses code node) = record { code = code; node = node; value = 0 }
+
+-- a value that may be missing
+abbrev pub optionC : Said (Option ℕ) → COption
+optionC (says (some x)) = record { code = 0; node = nil; some = 1; value = x }
+optionC (says none) = record { code = 0; node = nil; some = 0; value = 0 }
+optionC (refuses code node) = record { code = code; node = node; some = 0; value = 0 }
+
+-- node: two nodes; a range of the byte store; a value
+abbrev pub visitedC : Said Visited → CVisited
+visitedC (says (children first rest)) = record { code = 0; node = nil; kind = 0; first = first; second = rest }
+visitedC (says (buffer start end)) = record { code = 0; node = nil; kind = 1; first = start; second = end }
+visitedC (says (number v)) = record { code = 0; node = nil; kind = 2; first = v; second = 0 }
+visitedC (refuses code node) = record { code = code; node = node; kind = 0; first = 0; second = 0 }
+
+-- sexp and next
+abbrev pub childrenC : Said Sexp → CChildren
+childrenC (says (branch first rest)) = record { code = 0; node = nil; «is_pair» = 1; first = first; rest = rest }
+childrenC (says atomic) = record { code = 0; node = nil; «is_pair» = 0; first = 0; rest = 0 }
+childrenC (refuses code node) = record { code = code; node = node; «is_pair» = 0; first = 0; rest = 0 }
+
+-- atom: a part of the byte store, or the last bytes of the scratch of four
+abbrev pub partAt : ℕ → ℕ → ℕ → CPart
+partAt place offset length = record { code = 0; node = nil; place = place; offset = offset; length = length }
+
+abbrev pub partC : Said Atom → CPart
+partC (says (range start end)) = partAt 0 start (end - start)
+partC (says (value v)) = partAt 1 (4 - lenFor v) (lenFor v)
+partC (refuses code node) = record { code = code; node = node; place = 0; offset = 0; length = 0 }
+
+-- checkpoint_node_status
+abbrev pub standing : ℕ → ℕ → ℕ → CStatus
+standing status start end = record { code = 0; node = nil; status = status; start = start; end = end }
+
+abbrev pub statusC : Said Status → CStatus
+statusC (says before) = standing 0 0 0
+statusC (says afterNewBytes) = standing 1 0 0
+statusC (says (afterOldBytes start end)) = standing 2 start end
+statusC (refuses code node) = record { code = code; node = node; status = 0; start = 0; end = 0 }
+
+-- checkpoint
+abbrev pub takenC : Said Checkpoint → CTaken
+takenC (says k) = record { code = 0; node = nil; checkpoint = k }
+takenC (refuses code node) =
+    record { code = code; node = node; checkpoint = record { used = counts 0 0 0; ghosts = counts 0 0 0 } }
+
+-- transparent_checkpoint
+abbrev pub markedC : Said Counts → CMarked
+markedC (says k) = record { code = 0; node = nil; checkpoint = k }
+markedC (refuses code node) = record { code = code; node = node; checkpoint = counts 0 0 0 }
+
+-- the node of a creating call, with the record that it leaves
+abbrev pub madeBy : Said ℕ → Allocator → CMade
+madeBy (says n) a = record { code = 0; node = n; state = a }
+madeBy (refuses code node) a = record { code = code; node = node; state = a }
+
+-- a call that makes no node, with the record that it leaves
+abbrev pub changedBy : Said Done → Allocator → CChanged
+changedBy (says done) a = record { code = 0; node = nil; state = a }
+changedBy (refuses code node) a = record { code = code; node = node; state = a }
+
+-- maybe_restore_with_node, with the record that it leaves
+abbrev pub restoredBy : Said Restoring → Allocator → CRestored
+restoredBy (says noReplace) a = record { code = 0; node = nil; outcome = 0; state = a }
+restoredBy (says (replace n)) a = record { code = 0; node = n; outcome = 1; state = a }
+restoredBy (says aborted) a = record { code = 0; node = nil; outcome = 2; state = a }
+restoredBy (refuses code node) a = record { code = code; node = node; outcome = 0; state = a }
+
+-- the same of all that a call gives; what it was lent stands beside, in the contract's second half
+abbrev pub madeC : {L : Type 0} → Out ℕ L → CMade
+madeC o = madeBy (o .said) (o .rec)
+
+abbrev pub changedC : {L : Type 0} → Out Done L → CChanged
+changedC o = changedBy (o .said) (o .rec)
+
+abbrev pub restoredC : {L : Type 0} → Out Restoring L → CRestored
+restoredC o = restoredBy (o .said) (o .rec)

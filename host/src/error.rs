@@ -1,0 +1,123 @@
+//! Why a call was refused.
+use crate::ffi::Answer;
+use crate::NodePtr;
+use std::fmt;
+
+/// What a call answers.
+pub type Result<T> = std::result::Result<T, EvalErr>;
+
+/// The reason for a refusal. Its value as a number is the library's code.
+#[derive(Clone, Copy, Debug, PartialEq, Eq, Hash)]
+#[repr(u32)]
+pub enum Code {
+    /// The record, or a slot that must be read, is unsound; or a heap limit above 4,294,967,295.
+    Unsound = 1,
+    /// The heap limit is reached.
+    OutOfMemory = 2,
+    /// There are 62,500,000 atoms.
+    TooManyAtoms = 3,
+    /// There are 62,500,000 pairs.
+    TooManyPairs = 4,
+    /// A node that is not valid in this state.
+    NotValid = 5,
+    /// A pair where an atom is due; the error has that node.
+    ExpectedAtom = 6,
+    /// substr: the start is past the end of the atom; the error has the node.
+    StartOutOfBounds = 7,
+    /// substr: the end is past the end of the atom; the error has the node.
+    EndOutOfBounds = 8,
+    /// substr: the end lies before the start; the error has the node.
+    InvalidBounds = 9,
+    /// concat: the size is not that of the terms.
+    InvalidSize = 10,
+    /// A checkpoint to which this state cannot go back.
+    NotUsable = 11,
+    /// The bytes of a node lie across the end of a checkpoint's.
+    InvalidRange = 12,
+    /// A small number above 67,108,863.
+    TooLarge = 13,
+    /// More ghost pairs were to be removed than there are.
+    TooFewGhosts = 14,
+    /// 4,294,967,295 bytes, or this machine's memory, cannot hold the result.
+    Full = 15,
+}
+
+impl Code {
+    const ALL: [Code; 15] = [
+        Code::Unsound,
+        Code::OutOfMemory,
+        Code::TooManyAtoms,
+        Code::TooManyPairs,
+        Code::NotValid,
+        Code::ExpectedAtom,
+        Code::StartOutOfBounds,
+        Code::EndOutOfBounds,
+        Code::InvalidBounds,
+        Code::InvalidSize,
+        Code::NotUsable,
+        Code::InvalidRange,
+        Code::TooLarge,
+        Code::TooFewGhosts,
+        Code::Full,
+    ];
+
+    /// The code as the library numbers it.
+    pub fn number(self) -> u32 {
+        self as u32
+    }
+
+    /// The code of a number from 1 to 15. The library has no other; were there one, the state is not to be trusted.
+    fn of(number: u32) -> Code {
+        let at = usize::try_from(number.wrapping_sub(1)).unwrap_or(usize::MAX);
+        Code::ALL.get(at).copied().unwrap_or(Code::Unsound)
+    }
+
+    /// In words; clvm_rs's where it has such an error.
+    fn words(self) -> &'static str {
+        match self {
+            Code::Unsound => "unsound record or slot",
+            Code::OutOfMemory => "Out of Memory",
+            Code::TooManyAtoms => "Too Many Atoms",
+            Code::TooManyPairs => "too many pairs",
+            Code::NotValid => "node not valid",
+            Code::ExpectedAtom => "expected atom, got pair",
+            Code::StartOutOfBounds => "substr start out of bounds",
+            Code::EndOutOfBounds => "substr end out of bounds",
+            Code::InvalidBounds => "substr invalid bounds",
+            Code::InvalidSize => "concat passed invalid new_size",
+            Code::NotUsable => "checkpoint not usable",
+            Code::InvalidRange => "invalid atom byte range",
+            Code::TooLarge => "small number too large",
+            Code::TooFewGhosts => "fewer ghost pairs than were to be removed",
+            Code::Full => "no room for the result",
+        }
+    }
+}
+
+/// A refusal: the reason, and the node that goes with it, which is nil where the reason names none.
+#[derive(Clone, Copy, Debug, PartialEq, Eq, Hash)]
+pub struct EvalErr {
+    /// The reason.
+    pub code: Code,
+    /// The node.
+    pub node: NodePtr,
+}
+
+impl fmt::Display for EvalErr {
+    fn fmt(&self, f: &mut fmt::Formatter<'_>) -> fmt::Result {
+        f.write_str(self.code.words())
+    }
+}
+
+impl std::error::Error for EvalErr {}
+
+/// An answer of the library, unless it is a refusal.
+pub(crate) fn accepted<T: Answer>(answer: T) -> Result<T> {
+    match answer.code() {
+        0 => Ok(answer),
+        code => Err(EvalErr {
+            code: Code::of(code),
+            node: NodePtr::of(answer.node()),
+        }),
+    }
+}
