@@ -1,20 +1,20 @@
 -- What every machine of a run has is kept by every record. Assumes nothing.
 use Prim.Native.Nat.{ℕ, zero, suc, _+_, _-_, _*_, _%_, _≤_, _<_}
-use mathlib.Core.Path.{_≡_, refl, sym, ap, _∙_}
+use mathlib.Core.Path.{_≡_, refl, ap}
 use mathlib.Core.Logic.{_⊎_, inl, inr}
 use mathlib.Core.Bool.{Bool, true, false, cond, _&&_}
 use mathlib.Core.List.{List, [], _∷_}
 use native.Mathlib.Omega.{arith}
 use lib.Dec.{ltb, leb, eqb}
-use lib.ListN.{length, take, drop, getD}
+use lib.ListN.{length, take, drop}
 use lib.Seq.{getD-drop}
 use borrow.Author.Tests.{ltb-true, ltb-false}
 use Rattle.rules.specs.declared.Counts.{Counts}
 use Rattle.rules.specs.declared.Allocator.{Allocator}
 use Rattle.rules.specs.declared.Checkpoint.{Checkpoint}
 use Rattle.rules.specs.Small.{Octets}
-use Rattle.rules.specs.Said.{Said, says, refuses, Done, done, NoLists, Out}
-use Rattle.rules.specs.State.{Store, PairSlots, Lists, lists}
+use Rattle.rules.specs.Said.{Said, says, refuses, Done, done}
+use Rattle.rules.specs.State.{Lists}
 use Rattle.rules.specs.Reads.{checkpoint}
 use Rattle.rules.specs.Creates as C
 use Rattle.rules.specs.Restores as R
@@ -25,7 +25,6 @@ use Rattle.runs.specs.State.{St, Whole, Making, make, plainTo, transparentTo, m
 use Rattle.runs.specs.State as S
 use Rattle.runs.specs.Wf.{WF, Sound}
 use Rattle.runs.specs.Makes.{Outcome, refused, accepted}
-use Rattle.runs.specs.Back.{KeepsTotals}
 use Rattle.runs.proofs.Every.{make-on}
 use Rattle.runs.proofs.Restoring.{transparent-keeps, plain-forms, maybe-keeps}
 use Rattle.trace.specs.declared.machine.Machine.{Machine}
@@ -35,11 +34,11 @@ use Rattle.trace.specs.declared.step.Frame.the-variants.{Whole as wholeF
 use Rattle.trace.specs.declared.step.Step.{Step}
 use Rattle.text.specs.declared.Shown.{Shown}
 use Rattle.text.specs.declared.Shown.the-variants as shown
-use Rattle.trace.specs.Bytes.{u16At, u32At, u64At, u32s}
+use Rattle.trace.specs.Bytes.{u16At, u32At, u64At}
 use Rattle.trace.specs.Request as Q
-use Rattle.trace.specs.Request.{Request, sized, listed, laterOf, requestOf, frameOf, requestIn, requestAt, frameSize}
-use Rattle.trace.specs.Machine.{freshMachine, withMark, didOf, didMake, didChange, didTake, didRestore, didMaybe, Acted, acted, onStore, onPairs, alone, storeOf, markAt, actOf}
-use Rattle.trace.specs.Step.{withRow, closed, closedOn, stepOn}
+use Rattle.trace.specs.Request.{Request, sized, laterOf, requestOf, frameOf, requestIn, requestAt, frameSize}
+use Rattle.trace.specs.Machine.{withMark, didOf, didMake, didChange, didTake, didRestore, didMaybe, Acted, acted, storeOf, markAt, numbered, actOf}
+use Rattle.trace.specs.Step.{withRow, stepOn}
 use Rattle.trace.specs.Sane.{Sane, Ready, stateOf}
 
 -- ---- a part of a list of bytes is one
@@ -144,8 +143,8 @@ module _ (m : Machine) (l : Lists) (h : Ready m l) where
   maybe-by : (k : Counts) (n : ℕ) → WF (maybeTo k n (stateOf m l) .next)
   maybe-by k n = outcome-formed (h .formed) (λ x s′ p. p .forms (h .formed)) (maybe-keeps k n (stateOf m l))
 
-  numbered-kept : (i : ℕ) (x : Acted) → Kept m x → Kept m (cond (ltb i (m .taken)) x (acted (didOf m 11 (shown.Node 134217728)) l))
-  numbered-kept i x k = choice (Kept m) (ltb i (m .taken)) _ _ (λ t. k) (λ t. still m (h .sane) (m .state) l (h .formed) 11 _)
+  numbered-kept : (i : ℕ) (x : Acted) → Kept m x → Kept m (numbered m i l x)
+  numbered-kept i x k = choice (Kept m) (ltb i (m .taken)) _ _ (λ t. k) (λ t. still m (h .sane) (m .state) l (h .formed) _ _)
 
   act-kept : (r : Request) → Fine r → Kept m (actOf m l r)
   act-kept (Q.atom v) f = let o = C.newAtom (m .state) v (storeOf l) in made-kept m (h .sane) (o .said) (o .rec) _ (made-by (S.atom v f))

@@ -151,7 +151,7 @@ pub fn bad(m: Machine) -> Did
 }
 
 // A refusal of the program itself: it shows nil.
-pub fn refuse(m: Machine, code: Code) -> Did
+fn refuse(m: Machine, code: Code) -> Did
     ensures { λ r. ⌜ r ≡ didOf m (codeNumber code) (Shown.Node nil) ⌝ }
 {
     Did {
@@ -159,6 +159,13 @@ pub fn refuse(m: Machine, code: Code) -> Did
         code: number(code),
         node: Shown::Node(134217728),
     }
+}
+
+// An untaken checkpoint's number: 11.
+pub fn untaken(m: Machine) -> Did
+    ensures { λ r. ⌜ r ≡ didOf m 11 (Shown.Node nil) ⌝ }
+{
+    refuse(m, Code::NotUsable)
 }
 
 // A creating call shows its node, or the node of its refusal.

@@ -3,7 +3,6 @@ use crate::fields;
 use crate::machine;
 use crate::machine::Did;
 use crate::machine::Machine;
-use rules::Code;
 ghost use mathlib.Core.Path.{_≡_};
 ghost use mathlib.Core.List.{List};
 ghost use Prim.Native.Nat.{ℕ};
@@ -31,7 +30,7 @@ pub fn plain(
     }
     let i = fields::u16_at(p, 0);
     if m.taken <= i {
-        return machine::refuse(m, Code::NotUsable);
+        return machine::untaken(m);
     }
     let k = m.marks[i];
     let used = k.used;
@@ -57,7 +56,7 @@ pub fn transparent(
     }
     let i = fields::u16_at(p, 0);
     if m.taken <= i {
-        return machine::refuse(m, Code::NotUsable);
+        return machine::untaken(m);
     }
     let k = m.marks[i];
     let used = k.used;
@@ -84,7 +83,7 @@ pub fn with_node(
     }
     let i = fields::u16_at(p, 0);
     if m.taken <= i {
-        return machine::refuse(m, Code::NotUsable);
+        return machine::untaken(m);
     }
     let n = fields::u32_at(p, 2);
     let k = m.marks[i];

@@ -13,7 +13,7 @@ use Rattle.trace.proofs.fields.u16_at.Reads as u16-at-reads
 use Rattle.trace.proofs.fields.u32_at.Reads as u32-at-reads
 use Rattle.trace.proofs.machine.bad.Reads as bad-reads
 use Rattle.trace.proofs.machine.maybe.Reads as maybe-reads
-use Rattle.trace.proofs.machine.refuse.Reads as refuse-reads
+use Rattle.trace.proofs.machine.untaken.Reads as untaken-reads
 
 bad-requires : tie.Need-bad-requires
 bad-requires c κs = search needs
@@ -24,11 +24,11 @@ returns c = simp (ne-eqb _ _ (c .before .if1 .taken), c .bad .ensures)
 u16-at-requires : tie.Need-u16-at-requires
 u16-at-requires c κs = search needs
 
-refuse-requires : tie.Need-refuse-requires
-refuse-requires c κs = search needs
+untaken-requires : tie.Need-untaken-requires
+untaken-requires c κs = search needs
 
 returns-2 : tie.Need-returns-2
-returns-2 c = simp (eq-eqb _ _ (c .before .before .before .if1 .left), ← (c .before .before .u16-at .ensures .0), le-ltb _ _ (c .before .if2 .taken), c .refuse .ensures)
+returns-2 c = simp (eq-eqb _ _ (c .before .before .before .if1 .left), ← (c .before .before .u16-at .ensures .0), le-ltb _ _ (c .before .if2 .taken), c .untaken .ensures)
 
 u32-at-requires : tie.Need-u32-at-requires
 u32-at-requires c κs = search needs
@@ -66,7 +66,7 @@ with-node-spec =
     bad-requires
     returns
     u16-at-requires
-    refuse-requires
+    untaken-requires
     returns-2
     u32-at-requires
     mul-k
