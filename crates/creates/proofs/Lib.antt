@@ -2,3 +2,4 @@
 pub mod Rooms
 pub mod Numbers
 pub mod Parts
+pub mod ReadBack
