@@ -4,6 +4,7 @@
 mod compare;
 mod edges;
 mod fault;
+mod listed;
 mod make;
 mod paper;
 mod record;
@@ -48,6 +49,9 @@ fn main() {
         std::process::exit(2);
     };
     compare::silence();
+    if o.smallest {
+        std::process::exit(if listed::print() { 0 } else { 1 });
+    }
     if let Some(folder) = &o.record {
         if let Err(e) = record::record(o.seed, folder) {
             eprintln!("{}: {e}", folder.display());
@@ -104,10 +108,6 @@ fn main() {
     tally.print_edges();
     println!("\nlisted differences, met and recognised");
     tally.print_listed();
-    if o.smallest {
-        println!("\nthe smallest input of each");
-        tally.print_smallest();
-    }
     println!("{} passed, {} failed", tally.passed, tally.failed);
     if tally.failed > 0 {
         std::process::exit(1);

@@ -1,11 +1,11 @@
 //! One run: a start, calls made up on the way, a comparison after each, and a shorter run where one fails.
 
-use crate::compare::{Kind, Sides, Verdict, caught, numbers};
+use crate::compare::{Kind, Sides, Verdict, numbers};
 use crate::edges::{self, EDGES};
 use crate::make::{self, Family, Maker};
 use crate::paper;
 use crate::rng::Rng;
-use calls::{Call, NAMES, Record, Said, State};
+use calls::{Call, NAMES, Said, State};
 use ours::{Lent, Ours};
 use std::collections::BTreeMap;
 
@@ -18,15 +18,6 @@ pub struct Run {
     pub calls: Vec<Call>,
 }
 
-/// The smallest input on which a kind of difference was seen, and what the Rust said.
-struct Seen {
-    times: u64,
-    size: usize,
-    state: Option<State>,
-    call: Call,
-    theirs: Said,
-}
-
 #[derive(Default)]
 pub struct Tally {
     pub passed: u64,
@@ -34,7 +25,7 @@ pub struct Tally {
     pub runs: BTreeMap<Family, (u64, u64)>,
     codes: BTreeMap<(usize, u32), u64>,
     edges: [u64; EDGES.len()],
-    listed: BTreeMap<Kind, Seen>,
+    listed: BTreeMap<Kind, u64>,
 }
 
 impl Tally {
@@ -50,26 +41,6 @@ impl Tally {
         if !passed {
             self.passed -= 1;
             self.failed += 1;
-        }
-    }
-
-    fn listed(&mut self, kind: Kind, sides: &Sides, call: &Call) {
-        let size = size_of(sides, call);
-        let seen = self.listed.entry(kind).or_insert(Seen {
-            times: 0,
-            size: usize::MAX,
-            state: None,
-            call: call.clone(),
-            theirs: Said::Done,
-        });
-        seen.times += 1;
-        if size < seen.size {
-            let state = sides.ours.state();
-            seen.theirs = match &state {
-                Some(state) => caught(|| checked::Theirs::of(state).call(call)),
-                None => Said::Odd("less is lent than is used".to_string()),
-            };
-            (seen.size, seen.state, seen.call) = (size, state, call.clone());
         }
     }
 
@@ -96,10 +67,10 @@ impl Tally {
     /// How often each kind of listed difference was met: by call, and by what the Rust does there.
     pub fn print_listed(&self) {
         let mut lines: BTreeMap<&str, (u64, BTreeMap<usize, Vec<String>>)> = BTreeMap::new();
-        for (kind, seen) in &self.listed {
+        for (kind, times) in &self.listed {
             let line = lines.entry(kind.what).or_default();
-            line.0 += seen.times;
-            line.1.entry(kind.call).or_default().push(format!("{} {}", kind.theirs, seen.times));
+            line.0 += times;
+            line.1.entry(kind.call).or_default().push(format!("{} {times}", kind.theirs));
         }
         for (what, (times, calls)) in lines {
             println!("{times:>9}  {what}");
@@ -108,29 +79,6 @@ impl Tally {
             }
         }
     }
-
-    /// The smallest input of each kind, with what both builds of the Rust say.
-    pub fn print_smallest(&self) {
-        for (kind, seen) in &self.listed {
-            println!("{} - {}: the Rust {}", kind.what, NAMES[kind.call], kind.theirs);
-            println!("    call   {}", brief(&seen.call));
-            let Some(state) = &seen.state else {
-                println!("    state  less is lent than is used");
-                continue;
-            };
-            println!("    state  {}", text(state));
-            let mut theirs = checked::Theirs::of(state);
-            let said = caught(|| theirs.call(&seen.call));
-            println!("    checked build  {said:?}{}", after(state.record(), theirs.record()));
-            let mut theirs = plain::Theirs::of(state);
-            let said = caught(|| theirs.call(&seen.call));
-            println!("    release build  {said:?}{}", after(state.record(), theirs.record()));
-        }
-    }
-}
-
-fn after(before: Record, after: Record) -> String {
-    if before == after { String::new() } else { format!(", then {}", numbers(&after)) }
 }
 
 /// A state in a line: atoms, pairs, bytes used; the ghosts; the limit; the contents, where they are short.
@@ -146,30 +94,6 @@ pub fn text(s: &State) -> String {
         text += &format!(" pairs {:?}", s.pairs);
     }
     text
-}
-
-/// How large an input is: fresh ghosts and the top limit count as small.
-fn size_of(sides: &Sides, call: &Call) -> usize {
-    let r = &sides.ours.record;
-    let mut size = r.used.bytes + 2 * r.used.atoms + 2 * r.used.pairs;
-    for (is, usual) in [(r.ghosts.atoms, 2), (r.ghosts.pairs, 0), (r.ghosts.bytes, 1), (r.limit, calls::TOP)] {
-        size += if is == usual { 0 } else { 10 + (is.ilog2_or_zero() as usize) / 4 };
-    }
-    size + match call {
-        Call::NewAtom(v) => v.len(),
-        Call::NewConcat(_, nodes) => nodes.len(),
-        _ => 0,
-    }
-}
-
-trait Log {
-    fn ilog2_or_zero(self) -> u32;
-}
-
-impl Log for usize {
-    fn ilog2_or_zero(self) -> u32 {
-        self.checked_ilog2().unwrap_or(0)
-    }
 }
 
 /// A call in a line: a long atom by its length and first bytes.
@@ -235,7 +159,7 @@ pub fn run(seed: u64, number: u64, fault: usize, tally: &mut Tally) -> (Run, Opt
         match verdict {
             Verdict::Same => {}
             Verdict::Listed(kind) => {
-                tally.listed(kind, &sides, call);
+                *tally.listed.entry(kind).or_default() += 1;
                 let Some(state) = sides.ours.state() else {
                     // less is lent than is used: one difference ends the run
                     tally.end(run.family, true);
