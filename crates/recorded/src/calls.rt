@@ -1,6 +1,7 @@
 // Makes a call by its number (data/NOTE.txt).
 use super::answers;
 use super::answers::Done;
+use super::answers::Seen;
 use super::contents;
 use super::data;
 use super::data::Six;
@@ -15,59 +16,37 @@ use rules::Checkpoint;
 ghost use Prim.Native.Nat.{_≤_, _^_};
 ghost use lib.ListN.{length};
 
-// The calls that ask for the record at most, but the counts.
-fn of_record(call: u64, x: Six, t: &[u8], a: Allocator) -> Done {
-    let n = data::low(x.a);
-    if call == 0 {
-        return answers::of_fresh(record::clvm_new_limited(data::size(x.a)), a);
+// A node's bits, and bytes alone.
+fn of_bits(call: u64, n: u32, t: &[u8]) -> Seen {
+    match call {
+        1 => answers::of_number(bits::clvm_object_type(n)),
+        2 => answers::of_number(bits::clvm_index(n)),
+        3 => answers::of_number(bits::clvm_is_atom(n)),
+        4 => answers::of_number(bits::clvm_is_pair(n)),
+        5 => answers::of_option(bits::clvm_fits_in_small_atom(t)),
+        _ => answers::of_length(bits::clvm_len_for_value(n)),
     }
-    if call == 1 {
-        return answers::read(answers::of_number(bits::clvm_object_type(n)), a);
-    }
-    if call == 2 {
-        return answers::read(answers::of_number(bits::clvm_index(n)), a);
-    }
-    if call == 3 {
-        return answers::read(answers::of_number(bits::clvm_is_atom(n)), a);
-    }
-    if call == 4 {
-        return answers::read(answers::of_number(bits::clvm_is_pair(n)), a);
-    }
-    if call == 5 {
-        return answers::read(answers::of_option(bits::clvm_fits_in_small_atom(t)), a);
-    }
-    if call == 6 {
-        return answers::read(answers::of_length(bits::clvm_len_for_value(n)), a);
-    }
-    if call == 13 {
-        return answers::read(answers::of_taken(record::clvm_checkpoint_of(a)), a);
-    }
-    answers::read(
-        answers::of_marked(record::clvm_transparent_checkpoint(a)),
-        a,
-    )
 }
 
-fn of_counts(call: u64, a: Allocator) -> Done {
-    if call == 7 {
-        return answers::read(answers::of_number(record::clvm_atom_count(a)), a);
+fn of_counts(call: u64, a: Allocator) -> Seen {
+    match call {
+        7 => answers::of_number(record::clvm_atom_count(a)),
+        8 => answers::of_number(record::clvm_allocated_atom_count(a)),
+        9 => answers::of_number(record::clvm_pair_count(a)),
+        10 => answers::of_number(record::clvm_allocated_pair_count(a)),
+        11 => answers::of_number(record::clvm_heap_size(a)),
+        _ => answers::of_number(record::clvm_allocated_heap_size(a)),
     }
-    if call == 8 {
-        return answers::read(answers::of_number(record::clvm_allocated_atom_count(a)), a);
-    }
-    if call == 9 {
-        return answers::read(answers::of_number(record::clvm_pair_count(a)), a);
-    }
-    if call == 10 {
-        return answers::read(answers::of_number(record::clvm_allocated_pair_count(a)), a);
-    }
-    if call == 11 {
-        return answers::read(answers::of_number(record::clvm_heap_size(a)), a);
-    }
-    answers::read(answers::of_number(record::clvm_allocated_heap_size(a)), a)
 }
 
-// Going back, but for the restore with a node; and the status of a node.
+fn of_taking(call: u64, a: Allocator) -> Seen {
+    match call {
+        13 => answers::of_taken(record::clvm_checkpoint_of(a)),
+        _ => answers::of_marked(record::clvm_transparent_checkpoint(a)),
+    }
+}
+
+// Going back, but for the restore with a node.
 fn of_restores(
     call: u64,
     x: Six,
@@ -78,41 +57,29 @@ fn of_restores(
     rests: &[u32],
 ) -> Done {
     let used = data::counts(x.a, x.b, x.c);
-    if call == 15 {
-        let ghosts = data::counts(x.d, x.e, x.f);
-        let cp = Checkpoint {
-            used: used,
-            ghosts: ghosts,
-        };
-        return answers::of_changed(restoring::clvm_restore_checkpoint(
+    let ghosts = data::counts(x.d, x.e, x.f);
+    let cp = Checkpoint {
+        used: used,
+        ghosts: ghosts,
+    };
+    match call {
+        15 => answers::of_changed(restoring::clvm_restore_checkpoint(
             a,
             starts,
             ends,
             firsts,
             rests,
             cp,
-        ));
-    }
-    if call == 16 {
-        return answers::of_changed(restoring::clvm_restore_transparent_checkpoint(
+        )),
+        _ => answers::of_changed(restoring::clvm_restore_transparent_checkpoint(
             a,
             starts,
             ends,
             firsts,
             rests,
             used,
-        ));
-    }
-    answers::read(
-        answers::of_status(lookup::clvm_checkpoint_node_status(
-            a,
-            starts,
-            ends,
-            used,
-            data::low(x.d),
         )),
-        a,
-    )
+    }
 }
 
 // -t.
@@ -140,7 +107,7 @@ fn signed(t: u64, negative: u64) -> i64 {
     0
 }
 
-// A number or atom that is stored.
+// A number, an atom or a part of one that may be stored.
 fn of_atoms(
     call: u64,
     x: Six,
@@ -150,24 +117,32 @@ fn of_atoms(
     starts: &mut [u32],
     ends: &mut [u32],
 ) -> Done {
-    if call == 19 {
-        return answers::of_made(creation::clvm_new_atom(a, bytes, starts, ends, t));
+    match call {
+        19 => answers::of_made(creation::clvm_new_atom(a, bytes, starts, ends, t)),
+        21 => answers::of_made(creation::clvm_new_u64(a, bytes, starts, ends, x.a)),
+        22 => answers::of_made(creation::clvm_new_i64(a, bytes, starts, ends, signed(x.a, x.b))),
+        _ => of_substr(
+            a,
+            bytes,
+            starts,
+            ends,
+            data::low(x.a),
+            data::low(x.b),
+            data::low(x.c),
+        ),
     }
-    if call == 21 {
-        return answers::of_made(creation::clvm_new_u64(a, bytes, starts, ends, x.a));
-    }
-    if call == 22 {
-        return answers::of_made(creation::clvm_new_i64(a, bytes, starts, ends, signed(x.a, x.b)));
-    }
-    answers::of_made(creation::clvm_new_substr(
-        a,
-        bytes,
-        starts,
-        ends,
-        data::low(x.a),
-        data::low(x.b),
-        data::low(x.c),
-    ))
+}
+
+fn of_substr(
+    a: Allocator,
+    bytes: &mut [u8],
+    starts: &mut [u32],
+    ends: &mut [u32],
+    n: u32,
+    start: u32,
+    end: u32,
+) -> Done {
+    answers::of_made(creation::clvm_new_substr(a, bytes, starts, ends, n, start, end))
 }
 
 fn of_concat(
@@ -206,19 +181,15 @@ fn of_nodes(
     answers::of_made(creation::clvm_new_concat(a, bytes, starts, ends, size, nodes))
 }
 
-// The calls that change ghosts alone, and those that make a pair.
+// The calls that change ghosts alone.
 fn of_ghosts(call: u64, x: Six, a: Allocator) -> Done {
     let amount = data::size(x.a);
-    if call == 20 {
-        return answers::of_made(creation::clvm_new_small_number(a, data::low(x.a)));
+    match call {
+        20 => answers::of_made(creation::clvm_new_small_number(a, data::low(x.a))),
+        24 => answers::of_changed(creation::clvm_add_ghost_pair(a, amount)),
+        25 => answers::of_changed(creation::clvm_remove_ghost_pair(a, amount)),
+        _ => answers::of_changed(creation::clvm_add_ghost_atom(a, amount)),
     }
-    if call == 24 {
-        return answers::of_changed(creation::clvm_add_ghost_pair(a, amount));
-    }
-    if call == 25 {
-        return answers::of_changed(creation::clvm_remove_ghost_pair(a, amount));
-    }
-    answers::of_changed(creation::clvm_add_ghost_atom(a, amount))
 }
 
 // atom, with the first part of a scratch.
@@ -245,15 +216,15 @@ fn of_part(
     scratch: &mut [u8],
     size: usize,
     n: u32,
-) -> Done {
+) -> Seen {
     if scratch.len() < size {
-        return answers::read(answers::of_length(0), a);
+        return answers::of_length(0);
     }
     let part = of_scratch(a, bytes, starts, ends, scratch, size, n);
-    answers::read(answers::of_part(part, data::be4(scratch)), a)
+    answers::of_part(part, data::be4(scratch))
 }
 
-fn of_atom(x: Six, a: Allocator, bytes: &[u8], starts: &[u32], ends: &[u32]) -> Done {
+fn of_atom(x: Six, a: Allocator, bytes: &[u8], starts: &[u32], ends: &[u32]) -> Seen {
     let mut scratch = [0u8; 8];
     of_part(
         a,
@@ -267,56 +238,37 @@ fn of_atom(x: Six, a: Allocator, bytes: &[u8], starts: &[u32], ends: &[u32]) -> 
 }
 
 // The reads of bytes and atom slots.
-fn of_reads(call: u64, x: Six, a: Allocator, bytes: &[u8], starts: &[u32], ends: &[u32]) -> Done {
+fn of_reads(call: u64, x: Six, a: Allocator, bytes: &[u8], starts: &[u32], ends: &[u32]) -> Seen {
     let n = data::low(x.a);
-    if call == 29 {
-        return answers::read(
-            answers::of_number(lookup::clvm_atom_eq(a, bytes, starts, ends, n, data::low(x.b))),
-            a,
-        );
+    match call {
+        17 => of_status(x, a, starts, ends),
+        29 => answers::of_number(lookup::clvm_atom_eq(a, bytes, starts, ends, n, data::low(x.b))),
+        30 => of_atom(x, a, bytes, starts, ends),
+        31 => answers::of_number(lookup::clvm_atom_len(a, starts, ends, n)),
+        _ => answers::of_option(lookup::clvm_small_number(a, bytes, starts, ends, n)),
     }
-    if call == 30 {
-        return of_atom(x, a, bytes, starts, ends);
-    }
-    if call == 31 {
-        return answers::read(
-            answers::of_number(lookup::clvm_atom_len(a, starts, ends, n)),
-            a,
-        );
-    }
-    answers::read(
-        answers::of_option(lookup::clvm_small_number(a, bytes, starts, ends, n)),
-        a,
-    )
+}
+
+fn of_status(x: Six, a: Allocator, starts: &[u32], ends: &[u32]) -> Seen {
+    let used = data::counts(x.a, x.b, x.c);
+    answers::of_status(lookup::clvm_checkpoint_node_status(a, starts, ends, used, data::low(x.d)))
 }
 
 // The reads of pair slots.
 fn of_pairs(
     call: u64,
-    x: Six,
+    n: u32,
     a: Allocator,
     starts: &[u32],
     ends: &[u32],
     firsts: &[u32],
     rests: &[u32],
-) -> Done {
-    let n = data::low(x.a);
-    if call == 33 {
-        return answers::read(
-            answers::of_visited(lookup::clvm_node(a, starts, ends, firsts, rests, n)),
-            a,
-        );
+) -> Seen {
+    match call {
+        33 => answers::of_visited(lookup::clvm_node(a, starts, ends, firsts, rests, n)),
+        34 => answers::of_children(lookup::clvm_sexp(a, firsts, rests, n)),
+        _ => answers::of_children(lookup::clvm_next(a, firsts, rests, n)),
     }
-    if call == 34 {
-        return answers::read(
-            answers::of_children(lookup::clvm_sexp(a, firsts, rests, n)),
-            a,
-        );
-    }
-    answers::read(
-        answers::of_children(lookup::clvm_next(a, firsts, rests, n)),
-        a,
-    )
 }
 
 // The calls that write bytes or atom slots.
@@ -331,27 +283,59 @@ fn of_store(
     firsts: &[u32],
     rests: &[u32],
 ) -> Done {
-    if call == 18 {
-        let used = data::counts(x.a, x.b, x.c);
-        return answers::of_restored(restoring::clvm_maybe_restore_with_node(
-            a,
-            bytes,
-            starts,
-            ends,
-            firsts,
-            rests,
-            used,
-            data::low(x.d),
-        ));
+    match call {
+        18 => of_maybe(x, a, bytes, starts, ends, firsts, rests),
+        28 => of_concat(x, t, a, bytes, starts, ends),
+        _ => of_atoms(call, x, t, a, bytes, starts, ends),
     }
-    if call == 28 {
-        return of_concat(x, t, a, bytes, starts, ends);
+}
+
+fn of_maybe(
+    x: Six,
+    a: Allocator,
+    bytes: &mut [u8],
+    starts: &mut [u32],
+    ends: &mut [u32],
+    firsts: &[u32],
+    rests: &[u32],
+) -> Done {
+    let used = data::counts(x.a, x.b, x.c);
+    let n = data::low(x.d);
+    answers::of_restored(restoring::clvm_maybe_restore_with_node(
+        a,
+        bytes,
+        starts,
+        ends,
+        firsts,
+        rests,
+        used,
+        n,
+    ))
+}
+
+// The calls that only look.
+fn of_looks(
+    call: u64,
+    x: Six,
+    t: &[u8],
+    a: Allocator,
+    bytes: &[u8],
+    starts: &[u32],
+    ends: &[u32],
+    firsts: &[u32],
+    rests: &[u32],
+) -> Seen {
+    match call {
+        7..=12 => of_counts(call, a),
+        13 | 14 => of_taking(call, a),
+        17 | 29..=32 => of_reads(call, x, a, bytes, starts, ends),
+        33..=35 => of_pairs(call, data::low(x.a), a, starts, ends, firsts, rests),
+        _ => of_bits(call, data::low(x.a), t),
     }
-    of_atoms(call, x, t, a, bytes, starts, ends)
 }
 
 // The calls that write nothing.
-fn of_looks(
+fn of_rest(
     call: u64,
     x: Six,
     t: &[u8],
@@ -363,13 +347,20 @@ fn of_looks(
     rests: &[u32],
 ) -> Done {
     match call {
-        7..=12 => of_counts(call, a),
-        15..=17 => of_restores(call, x, a, starts, ends, firsts, rests),
+        0 => answers::of_fresh(record::clvm_new_limited(data::size(x.a)), a),
+        15 | 16 => of_restores(call, x, a, starts, ends, firsts, rests),
         20 | 24..=26 => of_ghosts(call, x, a),
-        29..=32 => of_reads(call, x, a, bytes, starts, ends),
-        33..=35 => of_pairs(call, x, a, starts, ends, firsts, rests),
-        _ => of_record(call, x, t, a),
+        _ => answers::read(
+            of_looks(call, x, t, a, bytes, starts, ends, firsts, rests),
+            a,
+        ),
     }
+}
+
+fn of_pair(x: Six, a: Allocator, firsts: &mut [u32], rests: &mut [u32]) -> Done {
+    let first = data::low(x.a);
+    let rest = data::low(x.b);
+    answers::of_made(creation::clvm_new_pair(a, firsts, rests, first, rest))
 }
 
 pub fn make(
@@ -383,17 +374,9 @@ pub fn make(
     firsts: &mut [u32],
     rests: &mut [u32],
 ) -> Done {
-    if call == 23 {
-        return answers::of_made(creation::clvm_new_pair(
-            a,
-            firsts,
-            rests,
-            data::low(x.a),
-            data::low(x.b),
-        ));
-    }
     match call {
+        23 => of_pair(x, a, firsts, rests),
         18 | 19 | 21 | 22 | 27 | 28 => of_store(call, x, t, a, bytes, starts, ends, firsts, rests),
-        _ => of_looks(call, x, t, a, bytes, starts, ends, firsts, rests),
+        _ => of_rest(call, x, t, a, bytes, starts, ends, firsts, rests),
     }
 }
