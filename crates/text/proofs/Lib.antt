@@ -1,1 +1,2 @@
+-- Laws about texts, for whoever proves something with them.
 pub mod Puts

@@ -1,1 +1,2 @@
+-- The text of the request program as definitions.
 pub mod Text
