@@ -1,8 +1,8 @@
 #!/usr/bin/env python3
 """Writes the tables of calls that the program `cases` runs, data/*.bin, and what it must print, stdout.
 
-Every answer comes from the model below. It is written from document 01 alone, with Python's own numbers, and shares nothing with the
-definitions or the code of this repository; where document 01 writes a number out, the table holds the model to that number (`want`).
+Every answer comes from the model below, never from the code of this repository. Its rules are transcribed from document 01, with Python's own
+numbers, by one who had read our sources too; which slices a call is lent, which decides code 1, is taken from our signatures. Where document 01 writes a number out, the table holds the model to that number (`want`).
 
     python3 crates/cases/make.py            write data/ and stdout, and print how much of what each table holds
 """
