@@ -10,22 +10,27 @@ extern "C" {
 #endif
 
 /*
- * A state is a record of seven numbers, passed by value, and five slices that the caller lends to a call beside it:
+ * A state is a record of seven numbers, which stays with the caller, and five slices beside it. A call is lent the record, by a
+ * pointer, and those of the slices that it needs:
  *
  *   bytes          the byte store
  *   starts, ends   one slot for each stored atom: where its bytes begin and end
  *   firsts, rests  one slot for each pair: its two nodes
  *
- * A slice is a pointer and its length in elements. A slice of length 0 may have any pointer, NULL too. A slice that is not
- * const is written, and must overlap no other slice of the same call. No call keeps a pointer, allocates, or blocks.
+ * A slice is a pointer and its length in elements. A slice of length 0 may have any pointer, NULL too. A pointer to a record or
+ * to a checkpoint points to a whole one, and is never NULL. What is const is only read. What is not const (a record, a
+ * checkpoint or a slice) may be written in place, and must overlap nothing else that is lent to the same call. So a call that
+ * may change the record *a takes no &a->used as its checkpoint, but a copy of it. No call keeps a pointer, allocates, or blocks.
  *
  * A node is a uint32_t: its kind in the top 6 bits (0 pair, 1 Bytes, 2 small atom), an index or the value in the low 26.
  *
  * Every answer that can be a refusal begins with code and node. code is 0 where the call was accepted, else the reason. On a
- * refusal node is the node that goes with the code (see below), every value is 0, the record is the one given, and nothing
- * was written. Where a call is accepted, node is the node that it made, and CLVM_NIL where it makes none.
+ * refusal node is the node that goes with the code (see below), every value is 0, and the record, the checkpoints and the
+ * slices are as they were (but see clvm_new_limited). Where a call is accepted, node is the node that it made, and CLVM_NIL
+ * where it makes none.
  *
- * No call has a precondition: any numbers, and any pointers with true lengths, get an answer or a code.
+ * No call has a precondition but these on the pointers: any numbers, in the record, the slots and a checkpoint too, get an
+ * answer or a code.
  */
 
 /* The small atom 0. */
@@ -137,61 +142,39 @@ typedef struct clvm_status {
     size_t end;
 } clvm_status;
 
-/* A plain checkpoint. */
-typedef struct clvm_taken {
+/* The node that a call made. What the call did to the record stands in the record. */
+typedef struct clvm_answer {
     uint32_t code;
     uint32_t node;
-    clvm_checkpoint checkpoint;
-} clvm_taken;
-
-/* A transparent checkpoint. */
-typedef struct clvm_marked {
-    uint32_t code;
-    uint32_t node;
-    clvm_counts checkpoint;
-} clvm_marked;
-
-/* The node that a call made, and the record after it. */
-typedef struct clvm_made {
-    uint32_t code;
-    uint32_t node;
-    clvm_allocator state;
-} clvm_made;
-
-/* The record after a call that makes no node. */
-typedef struct clvm_changed {
-    uint32_t code;
-    uint32_t node;
-    clvm_allocator state;
-} clvm_changed;
+} clvm_answer;
 
 /* What clvm_maybe_restore_with_node did; node is that of CLVM_REPLACE. */
 typedef struct clvm_restored {
     uint32_t code;
     uint32_t node;
     uint32_t outcome;
-    clvm_allocator state;
 } clvm_restored;
 
 /* ---- the record */
 
-/* A fresh record. A limit above 4,294,967,295 is refused with 1 and the record for limit 0. */
-clvm_changed clvm_new_limited(size_t limit);
+/* Writes a fresh record, whatever *a held. A limit above 4,294,967,295 is refused with 1, and *a is the record for limit 0. */
+clvm_answer clvm_new_limited(clvm_allocator *a, size_t limit);
 
 /* The six counts: used and ghosts together, or (allocated) used alone. */
-clvm_number clvm_atom_count(clvm_allocator a);
-clvm_number clvm_allocated_atom_count(clvm_allocator a);
-clvm_number clvm_pair_count(clvm_allocator a);
-clvm_number clvm_allocated_pair_count(clvm_allocator a);
-clvm_number clvm_heap_size(clvm_allocator a);
-clvm_number clvm_allocated_heap_size(clvm_allocator a);
+clvm_number clvm_atom_count(const clvm_allocator *a);
+clvm_number clvm_allocated_atom_count(const clvm_allocator *a);
+clvm_number clvm_pair_count(const clvm_allocator *a);
+clvm_number clvm_allocated_pair_count(const clvm_allocator *a);
+clvm_number clvm_heap_size(const clvm_allocator *a);
+clvm_number clvm_allocated_heap_size(const clvm_allocator *a);
 
-clvm_taken clvm_checkpoint_of(clvm_allocator a);
-clvm_marked clvm_transparent_checkpoint(clvm_allocator a);
+/* The present state as a checkpoint: plain, and transparent. A refusal leaves *checkpoint as it was. */
+clvm_answer clvm_checkpoint_of(const clvm_allocator *a, clvm_checkpoint *checkpoint);
+clvm_answer clvm_transparent_checkpoint(const clvm_allocator *a, clvm_counts *checkpoint);
 
 /* 1 exactly where the record and all used slots are sound, else 0. */
 uint32_t clvm_well_formed(
-    clvm_allocator a,
+    const clvm_allocator *a,
     const uint8_t *bytes, size_t bytes_len,
     const uint32_t *starts, size_t starts_len,
     const uint32_t *ends, size_t ends_len,
@@ -214,7 +197,7 @@ size_t clvm_len_for_value(uint32_t v);
 /* ---- reads */
 
 clvm_visited clvm_node(
-    clvm_allocator a,
+    const clvm_allocator *a,
     const uint32_t *starts, size_t starts_len,
     const uint32_t *ends, size_t ends_len,
     const uint32_t *firsts, size_t firsts_len,
@@ -222,13 +205,13 @@ clvm_visited clvm_node(
     uint32_t n);
 
 clvm_children clvm_sexp(
-    clvm_allocator a,
+    const clvm_allocator *a,
     const uint32_t *firsts, size_t firsts_len,
     const uint32_t *rests, size_t rests_len,
     uint32_t n);
 
 clvm_children clvm_next(
-    clvm_allocator a,
+    const clvm_allocator *a,
     const uint32_t *firsts, size_t firsts_len,
     const uint32_t *rests, size_t rests_len,
     uint32_t n);
@@ -236,7 +219,7 @@ clvm_children clvm_next(
 /* Says where the bytes are. For a small atom the scratch, which must have length 4 (else 15), is filled with the value
  * big-endian, and the part is its last bytes; for Bytes the scratch is left as it was. */
 clvm_part clvm_atom(
-    clvm_allocator a,
+    const clvm_allocator *a,
     const uint8_t *bytes, size_t bytes_len,
     const uint32_t *starts, size_t starts_len,
     const uint32_t *ends, size_t ends_len,
@@ -244,75 +227,75 @@ clvm_part clvm_atom(
     uint32_t n);
 
 clvm_number clvm_atom_len(
-    clvm_allocator a,
+    const clvm_allocator *a,
     const uint32_t *starts, size_t starts_len,
     const uint32_t *ends, size_t ends_len,
     uint32_t n);
 
 clvm_option clvm_small_number(
-    clvm_allocator a,
+    const clvm_allocator *a,
     const uint8_t *bytes, size_t bytes_len,
     const uint32_t *starts, size_t starts_len,
     const uint32_t *ends, size_t ends_len,
     uint32_t n);
 
 clvm_number clvm_atom_eq(
-    clvm_allocator a,
+    const clvm_allocator *a,
     const uint8_t *bytes, size_t bytes_len,
     const uint32_t *starts, size_t starts_len,
     const uint32_t *ends, size_t ends_len,
     uint32_t lhs, uint32_t rhs);
 
 clvm_status clvm_checkpoint_node_status(
-    clvm_allocator a,
+    const clvm_allocator *a,
     const uint32_t *starts, size_t starts_len,
     const uint32_t *ends, size_t ends_len,
-    clvm_counts checkpoint, uint32_t n);
+    const clvm_counts *checkpoint, uint32_t n);
 
 /* ---- creation */
 
-clvm_made clvm_new_atom(
-    clvm_allocator a,
+clvm_answer clvm_new_atom(
+    clvm_allocator *a,
     uint8_t *bytes, size_t bytes_len,
     uint32_t *starts, size_t starts_len,
     uint32_t *ends, size_t ends_len,
     const uint8_t *v, size_t v_len);
 
-clvm_made clvm_new_small_number(clvm_allocator a, uint32_t v);
+clvm_answer clvm_new_small_number(clvm_allocator *a, uint32_t v);
 
-clvm_made clvm_new_u64(
-    clvm_allocator a,
+clvm_answer clvm_new_u64(
+    clvm_allocator *a,
     uint8_t *bytes, size_t bytes_len,
     uint32_t *starts, size_t starts_len,
     uint32_t *ends, size_t ends_len,
     uint64_t x);
 
-clvm_made clvm_new_i64(
-    clvm_allocator a,
+clvm_answer clvm_new_i64(
+    clvm_allocator *a,
     uint8_t *bytes, size_t bytes_len,
     uint32_t *starts, size_t starts_len,
     uint32_t *ends, size_t ends_len,
     int64_t x);
 
-clvm_made clvm_new_pair(
-    clvm_allocator a,
+clvm_answer clvm_new_pair(
+    clvm_allocator *a,
     uint32_t *firsts, size_t firsts_len,
     uint32_t *rests, size_t rests_len,
     uint32_t first, uint32_t rest);
 
-clvm_changed clvm_add_ghost_pair(clvm_allocator a, size_t amount);
-clvm_changed clvm_remove_ghost_pair(clvm_allocator a, size_t amount);
-clvm_changed clvm_add_ghost_atom(clvm_allocator a, size_t amount);
+clvm_answer clvm_add_ghost_pair(clvm_allocator *a, size_t amount);
+clvm_answer clvm_remove_ghost_pair(clvm_allocator *a, size_t amount);
+clvm_answer clvm_add_ghost_atom(clvm_allocator *a, size_t amount);
 
-clvm_made clvm_new_substr(
-    clvm_allocator a,
+clvm_answer clvm_new_substr(
+    clvm_allocator *a,
     uint8_t *bytes, size_t bytes_len,
     uint32_t *starts, size_t starts_len,
     uint32_t *ends, size_t ends_len,
     uint32_t n, uint32_t start, uint32_t end);
 
-clvm_made clvm_new_concat(
-    clvm_allocator a,
+clvm_answer clvm_new_concat(
+    clvm_allocator *a,
     uint8_t *bytes, size_t bytes_len,
     uint32_t *starts, size_t starts_len,
     uint32_t *ends, size_t ends_len,
@@ -321,30 +304,30 @@ clvm_made clvm_new_concat(
 
 /* ---- restores: no slot is cleared */
 
-clvm_changed clvm_restore_checkpoint(
-    clvm_allocator a,
+clvm_answer clvm_restore_checkpoint(
+    clvm_allocator *a,
     const uint32_t *starts, size_t starts_len,
     const uint32_t *ends, size_t ends_len,
     const uint32_t *firsts, size_t firsts_len,
     const uint32_t *rests, size_t rests_len,
-    clvm_checkpoint checkpoint);
+    const clvm_checkpoint *checkpoint);
 
-clvm_changed clvm_restore_transparent_checkpoint(
-    clvm_allocator a,
+clvm_answer clvm_restore_transparent_checkpoint(
+    clvm_allocator *a,
     const uint32_t *starts, size_t starts_len,
     const uint32_t *ends, size_t ends_len,
     const uint32_t *firsts, size_t firsts_len,
     const uint32_t *rests, size_t rests_len,
-    clvm_counts checkpoint);
+    const clvm_counts *checkpoint);
 
 clvm_restored clvm_maybe_restore_with_node(
-    clvm_allocator a,
+    clvm_allocator *a,
     uint8_t *bytes, size_t bytes_len,
     uint32_t *starts, size_t starts_len,
     uint32_t *ends, size_t ends_len,
     const uint32_t *firsts, size_t firsts_len,
     const uint32_t *rests, size_t rests_len,
-    clvm_counts checkpoint, uint32_t n);
+    const clvm_counts *checkpoint, uint32_t n);
 
 #ifdef __cplusplus
 }

@@ -4,8 +4,8 @@
 mod table;
 
 use calls::{Call, Checkpoint, Counts, Said, State, TOP};
-use ours::ffi::Made;
-use ours::{Ours, fits_in_small_atom, is_pair};
+use ours::Ours;
+use ours::ffi::{clvm_is_pair, clvm_len_for_value, fits_in_small_atom};
 use plain::Theirs;
 use plain::allocator::{self, NodeVisitor, inside::bits, inside::mark, inside::node};
 use std::hint::black_box;
@@ -46,14 +46,6 @@ fn long() -> State {
     s
 }
 
-/// A host goes on with the record that a call returns.
-#[inline(always)]
-fn kept(o: &mut Ours, call: impl FnOnce(&mut Ours) -> Made) -> (u32, u32) {
-    let made = call(o);
-    o.record = made.state;
-    (made.code, made.node)
-}
-
 /// The i-th of a thousand, hidden from the compiler, which must not work answers out beforehand.
 #[inline(always)]
 fn nth(i: usize) -> u32 {
@@ -80,8 +72,9 @@ fn reads(t: &Table) {
     let b = &mut Both::of(&usual());
     let three = [1, 2, 3];
     let mut scratch = [0; 4];
+    t.row(b, "len_for_value", |_, i| allocator::len_for_value(nth(i)), |_, i| clvm_len_for_value(nth(i)));
     t.row(b, "heap_size", |a, _| a.heap_size(), |o, _| o.heap_size());
-    t.row(b, "is_pair", |_, i| node(nth(i)).is_pair(), |_, i| is_pair(nth(i)));
+    t.row(b, "is_pair", |_, i| node(nth(i)).is_pair(), |_, i| clvm_is_pair(nth(i)));
     t.row(
         b,
         "fits_in_small_atom, 3 bytes",
@@ -126,17 +119,17 @@ fn eq(t: &Table, b: &mut Both, name: &str, of: impl Fn(usize) -> (u32, u32)) {
 }
 
 fn atom(t: &Table, b: &mut Both, name: &str, v: &[u8]) {
-    t.row(b, name, |a, _| a.new_atom(black_box(v)).is_ok(), |o, _| kept(o, |o| o.new_atom(black_box(v))));
+    t.row(b, name, |a, _| a.new_atom(black_box(v)).is_ok(), |o, _| o.new_atom(black_box(v)));
 }
 
 fn substr(t: &Table, b: &mut Both, name: &str, n: u32, start: u32, end: u32) {
     let theirs = |a: &mut allocator::Allocator, _| a.new_substr(node(black_box(n)), start, end).is_ok();
-    t.row(b, name, theirs, |o, _| kept(o, |o| o.new_substr(black_box(n), start, end)));
+    t.row(b, name, theirs, |o, _| o.new_substr(black_box(n), start, end));
 }
 
 fn concat(t: &Table, b: &mut Both, name: &str, size: usize, nodes: &[u32]) {
     let theirs: Vec<_> = nodes.iter().map(|n| node(*n)).collect();
-    let ours = |o: &mut Ours, _| kept(o, |o| o.new_concat(black_box(size), nodes));
+    let ours = |o: &mut Ours, _| o.new_concat(black_box(size), nodes);
     t.row(b, name, |a, _| a.new_concat(black_box(size), &theirs).is_ok(), ours);
 }
 
@@ -147,18 +140,18 @@ fn creates(t: &Table) {
     atom(t, b, "new_atom, stored, 32 bytes", &[0x80; 32]);
     atom(t, b, "new_atom, stored, 1,000 bytes", &[0x80; 1000]);
     let small = |i: usize| nth(i) * 60000;
-    t.row(b, "new_small_number", |a, i| a.new_small_number(small(i)).is_ok(), |o, i| kept(o, |o| o.new_small_number(small(i))));
+    t.row(b, "new_small_number", |a, i| a.new_small_number(small(i)).is_ok(), |o, i| o.new_small_number(small(i)));
     for (name, base) in [("small", 1000), ("8 bytes", 1 << 60), ("9 bytes", 1 << 63)] {
         let x = |i| base | nth(i) as u64;
-        t.row(b, &format!("new_u64, {name}"), |a, i| a.new_u64(x(i)).is_ok(), |o, i| kept(o, |o| o.new_u64(x(i))));
+        t.row(b, &format!("new_u64, {name}"), |a, i| a.new_u64(x(i)).is_ok(), |o, i| o.new_u64(x(i)));
     }
     for (name, base) in [("2 bytes", -2000), ("8 bytes", i64::MIN)] {
         let x = |i| base + nth(i) as i64;
-        t.row(b, &format!("new_i64, negative, {name}"), |a, i| a.new_i64(x(i)).is_ok(), |o, i| kept(o, |o| o.new_i64(x(i))));
+        t.row(b, &format!("new_i64, negative, {name}"), |a, i| a.new_i64(x(i)).is_ok(), |o, i| o.new_i64(x(i)));
     }
     let first = |i| BYTES | nth(i);
     let theirs = |a: &mut allocator::Allocator, i| a.new_pair(node(first(i)), node(SMALL)).is_ok();
-    t.row(b, "new_pair", theirs, |o, i| kept(o, |o| o.new_pair(first(i), SMALL)));
+    t.row(b, "new_pair", theirs, |o, i| o.new_pair(first(i), SMALL));
     substr(t, b, "new_substr of Bytes", BYTES | 5, 4, 20);
     substr(t, b, "new_substr of a small atom, small", SMALL | 0x10203, 0, 1);
     substr(t, b, "new_substr of a small atom, stored", SMALL | 0x80, 1, 2);
@@ -169,27 +162,29 @@ fn creates(t: &Table) {
     concat(t, b, "new_concat of 8 small atoms", 8, &[SMALL | 5; 8]);
     concat(t, &mut Both::of(&long()), "new_concat of 2 times 1,000 bytes", 2000, &[BYTES, BYTES]);
     let three = || black_box(3);
-    t.row(b, "add_ghost_atom", |a, _| a.add_ghost_atom(three()).is_ok(), |o, _| kept(o, |o| o.add_ghost_atom(three())));
-    t.row(b, "add_ghost_pair", |a, _| a.add_ghost_pair(three()).is_ok(), |o, _| kept(o, |o| o.add_ghost_pair(three())));
+    t.row(b, "add_ghost_atom", |a, _| a.add_ghost_atom(three()).is_ok(), |o, _| o.add_ghost_atom(three()));
+    t.row(b, "add_ghost_pair", |a, _| a.add_ghost_pair(three()).is_ok(), |o, _| o.add_ghost_pair(three()));
     let mut ghosts = usual();
     ghosts.ghosts.pairs = 10000;
     let b = &mut Both::of(&ghosts);
-    t.row(
-        b,
-        "remove_ghost_pair",
-        |a, _| a.remove_ghost_pair(three()).is_ok(),
-        |o, _| kept(o, |o| o.remove_ghost_pair(three())),
-    );
+    t.row(b, "remove_ghost_pair", |a, _| a.remove_ghost_pair(three()).is_ok(), |o, _| o.remove_ghost_pair(three()));
 }
 
 fn restores(t: &Table) {
     let b = &mut Both::of(&usual());
-    t.row(b, "checkpoint", |a, _| a.checkpoint(), |o, _| o.checkpoint());
-    t.row(b, "transparent_checkpoint", |a, _| a.transparent_checkpoint(), |o, _| o.transparent_checkpoint());
+    // the library writes a checkpoint where its host keeps it
+    let (mut taken, mut counts) = (Checkpoint::default(), Counts::default());
+    t.row(b, "checkpoint", |a, _| a.checkpoint(), |o, _| o.checkpoint(black_box(&mut taken)));
+    t.row(
+        b,
+        "transparent_checkpoint",
+        |a, _| a.transparent_checkpoint(),
+        |o, _| o.transparent_checkpoint(black_box(&mut counts)),
+    );
     let cp = Counts { atoms: 500, pairs: 500, bytes: 16000 };
     let n = |i| BYTES | nth(i);
     let theirs = |a: &mut allocator::Allocator, i| a.checkpoint_node_status(&mark(cp), node(n(i)));
-    t.row(b, "checkpoint_node_status", theirs, |o, i| o.checkpoint_node_status(cp, n(i)));
+    t.row(b, "checkpoint_node_status", theirs, |o, i| o.checkpoint_node_status(&cp, n(i)));
     for kept_slots in [0, 10, 1000, 10_000, 100_000, 1_000_000] {
         // to the state as it is, so that it can be made again and again
         let state = slots(kept_slots);
@@ -202,19 +197,19 @@ fn restores(t: &Table) {
             b,
             &name("restore_checkpoint"),
             |a, _| a.restore_checkpoint(black_box(&theirs)),
-            |o, _| kept(o, |o| o.restore_checkpoint(plain)),
+            |o, _| o.restore_checkpoint(&plain),
         );
         t.row(
             b,
             &name("restore_transparent_checkpoint"),
             |a, _| a.restore_transparent_checkpoint(&mark(black_box(cp))),
-            |o, _| kept(o, |o| o.restore_transparent_checkpoint(cp)),
+            |o, _| o.restore_transparent_checkpoint(&cp),
         );
         t.row(
             b,
             &name("maybe_restore_with_node, Aborted"),
             |a, _| a.maybe_restore_with_node(&mark(black_box(cp)), node(SMALL)).is_ok(),
-            |o, _| o.maybe_restore_with_node(cp, SMALL),
+            |o, _| o.maybe_restore_with_node(&cp, SMALL),
         );
     }
     for kept_slots in [0, 1000] {
@@ -230,11 +225,7 @@ fn restores(t: &Table) {
         for (what, n) in [("NoReplace", SMALL), ("a copy of 32 bytes", last)] {
             let name = format!("maybe_restore_with_node, {what}, {} kept slots of each sort", thousands(kept_slots));
             let theirs = |a: &mut allocator::Allocator| a.maybe_restore_with_node(&mark(cp), node(n)).is_ok();
-            t.once(&name, &state, theirs, |o| {
-                let restored = o.maybe_restore_with_node(cp, n);
-                o.record = restored.state;
-                restored.node
-            });
+            t.once(&name, &state, theirs, |o| o.maybe_restore_with_node(&cp, n));
         }
     }
 }

@@ -39,7 +39,7 @@ pub struct Table {
 
 impl Table {
     pub fn new(rounds: usize) -> Self {
-        println!("| call | Rust, ns | ours, ns | ratio |\n|---|---:|---:|---:|");
+        println!("| call | Rust, ns | Rust behind a call, ns | ours, ns | ratio |\n|---|---:|---:|---:|---:|");
         Table { rounds }
     }
 
@@ -54,13 +54,16 @@ impl Table {
         let start = b.ours.record;
         let n = if start.used.atoms < 10_000 { 1000 } else { 10 };
         let mut times = (Vec::new(), Vec::new());
+        let mut behind = Vec::new();
         for _ in 0..=self.rounds {
             b.reset(start);
             times.0.push(time(n, |i| theirs(&mut b.theirs.a, i)));
             times.1.push(time(n, |i| ours(&mut b.ours, i)));
+            b.reset(start);
+            behind.push(time(n, |i| called(&mut theirs, &mut b.theirs.a, i)));
         }
         b.reset(start);
-        print(name, times);
+        print(name, times, &format!("{:.1}", median(behind)));
     }
 
     /// A call that spends its state: on 50 copies, made before the clock starts.
@@ -75,7 +78,7 @@ impl Table {
             let mut copies: Vec<Ours> = (0..COPIES).map(|_| Ours::of(state, lent)).collect();
             times.1.push(time(COPIES, |i| ours(&mut copies[i])));
         }
-        print(name, times);
+        print(name, times, "");
     }
 
     /// A list of calls, made whole on each side; nanoseconds per call.
@@ -88,8 +91,14 @@ impl Table {
             times.0.push(time(calls.len(), |i| b.theirs.call(&calls[i])));
             times.1.push(time(calls.len(), |i| b.ours.call(&calls[i])));
         }
-        print(name, times);
+        print(name, times, "");
     }
+}
+
+/// The Rust's call behind a call that is not inlined: a library's calls cannot be, the Rust's own often are.
+#[inline(never)]
+fn called<T>(call: &mut impl FnMut(&mut Allocator, usize) -> T, a: &mut Allocator, i: usize) -> T {
+    call(a, i)
 }
 
 /// Nanoseconds per call; the compiler must think that every answer is used.
@@ -107,7 +116,7 @@ fn median(mut times: Vec<f64>) -> f64 {
     times[times.len() / 2]
 }
 
-fn print(name: &str, times: (Vec<f64>, Vec<f64>)) {
+fn print(name: &str, times: (Vec<f64>, Vec<f64>), behind: &str) {
     let (theirs, ours) = (median(times.0), median(times.1));
-    println!("| {name} | {theirs:.1} | {ours:.1} | {:.2} |", ours / theirs);
+    println!("| {name} | {theirs:.1} | {behind} | {ours:.1} | {:.2} |", ours / theirs);
 }

@@ -1,6 +1,7 @@
-//! The allocator: the library's record, and the slots that are lent to its calls.
-use crate::error::{accepted, Result};
-use crate::ffi::{self, Counts, Plain, Record, Slots};
+//! The allocator: the library's record, and the slots that are lent with it to the library's calls. What a program calls often is
+//! inlined there, so that it pays for the library's call and no other.
+use crate::error::{accepted, Code, EvalErr, Result};
+use crate::ffi::{self, Counts, Held, Plain};
 use crate::node::{Atom, MaybeRestore, NodePtr, NodeStatus, NodeVisitor, SExp};
 
 /// The most bytes, and the largest heap limit.
@@ -24,6 +25,7 @@ pub struct TransparentCheckpoint(Counts);
 
 impl Checkpoint {
     /// The same state as a transparent checkpoint.
+    #[inline]
     pub fn transparent(&self) -> TransparentCheckpoint {
         TransparentCheckpoint(self.0.used)
     }
@@ -32,8 +34,7 @@ impl Checkpoint {
 /// Atoms and pairs, with the limits that consensus sets on how many are made.
 #[derive(Clone, Debug)]
 pub struct Allocator {
-    record: Record,
-    slots: Slots,
+    held: Held,
 }
 
 impl Default for Allocator {
@@ -58,111 +59,141 @@ fn grow<T: Clone + Default>(slots: &mut Vec<T>, needed: usize, most: usize) -> b
     true
 }
 
+/// What a call that makes a node answers.
+#[inline]
+fn made(answer: ffi::Answer) -> Result<NodePtr> {
+    accepted(answer).map(|made| NodePtr::of(made.node))
+}
+
+/// What a call that makes no node answers.
+#[inline]
+fn done(answer: ffi::Answer) -> Result<()> {
+    accepted(answer).map(|_| ())
+}
+
 impl Allocator {
     /// An allocator with the largest heap limit.
     pub fn new() -> Self {
-        Self::with_record(ffi::clvm_new_limited(MOST_BYTES).state)
+        let mut held = Held::default();
+        ffi::clvm_new_limited(&mut held.record, MOST_BYTES);
+        Self { held }
     }
 
     /// An allocator with a heap limit of at most 4,294,967,295 bytes.
     pub fn new_limited(heap_limit: usize) -> Result<Self> {
-        let made = accepted(ffi::clvm_new_limited(heap_limit))?;
-        Ok(Self::with_record(made.state))
-    }
-
-    fn with_record(record: Record) -> Self {
-        Self {
-            record,
-            slots: Slots::default(),
-        }
+        let mut held = Held::default();
+        accepted(ffi::clvm_new_limited(&mut held.record, heap_limit))?;
+        Ok(Self { held })
     }
 
     /// Whether record and slots are sound. Every call keeps them so: this is for tests.
     pub fn well_formed(&self) -> bool {
-        self.slots.well_formed(self.record)
+        self.held.well_formed()
     }
 
     // ---- growth: a refusal for lack of slots is asked again with longer ones
 
     /// Makes room for an atom of so many bytes more.
     fn grow_store(&mut self, bytes: usize) -> bool {
-        let used = self.record.used;
-        let end = used.bytes.saturating_add(bytes);
-        let atoms = used.atoms.saturating_add(1);
-        let store = grow(&mut self.slots.bytes, end, MOST_BYTES);
-        let starts = grow(&mut self.slots.starts, atoms, MOST_SLOTS);
-        let ends = grow(&mut self.slots.ends, atoms, MOST_SLOTS);
+        let held = &mut self.held;
+        let end = held.record.used.bytes.saturating_add(bytes);
+        let atoms = held.record.used.atoms.saturating_add(1);
+        let store = grow(&mut held.bytes, end, MOST_BYTES);
+        let starts = grow(&mut held.starts, atoms, MOST_SLOTS);
+        let ends = grow(&mut held.ends, atoms, MOST_SLOTS);
         store || starts || ends
     }
 
     /// Makes room for a pair more.
     fn grow_pairs(&mut self) -> bool {
-        let pairs = self.record.used.pairs.saturating_add(1);
-        let firsts = grow(&mut self.slots.firsts, pairs, MOST_SLOTS);
-        let rests = grow(&mut self.slots.rests, pairs, MOST_SLOTS);
+        let held = &mut self.held;
+        let pairs = held.record.used.pairs.saturating_add(1);
+        let firsts = grow(&mut held.firsts, pairs, MOST_SLOTS);
+        let rests = grow(&mut held.rests, pairs, MOST_SLOTS);
         firsts || rests
     }
 
-    /// A creating call, asked again as long as it is full and there is room to be made.
+    /// A creating call, asked again as long as it is full and there is room to be made. It changes the record in place, and a
+    /// refusal leaves it as it was.
+    #[inline]
     fn make(
         &mut self,
-        call: impl Fn(&mut Slots, Record) -> ffi::Made,
+        call: impl Fn(&mut Held) -> ffi::Answer,
         room: impl Fn(&mut Self) -> bool,
     ) -> Result<NodePtr> {
-        loop {
-            let made = call(&mut self.slots, self.record);
-            if made.code == ffi::FULL && room(self) {
-                continue;
-            }
-            let made = accepted(made)?;
-            self.record = made.state;
-            return Ok(NodePtr::of(made.node));
+        match made(call(&mut self.held)) {
+            Ok(node) => Ok(node),
+            Err(refused) => self.make_again(refused, call, room),
         }
     }
 
+    /// The same after a refusal; apart, so that the way of an accepted call is short.
+    #[cold]
+    #[inline(never)]
+    fn make_again(
+        &mut self,
+        mut refused: EvalErr,
+        call: impl Fn(&mut Held) -> ffi::Answer,
+        room: impl Fn(&mut Self) -> bool,
+    ) -> Result<NodePtr> {
+        while refused.code == Code::Full && room(self) {
+            match made(call(&mut self.held)) {
+                Ok(node) => return Ok(node),
+                Err(again) => refused = again,
+            }
+        }
+        Err(refused)
+    }
+
     /// A creating call that may store an atom of so many bytes.
+    #[inline]
     fn make_atom(
         &mut self,
         bytes: usize,
-        call: impl Fn(&mut Slots, Record) -> ffi::Made,
+        call: impl Fn(&mut Held) -> ffi::Answer,
     ) -> Result<NodePtr> {
         self.make(call, |a| a.grow_store(bytes))
     }
 
-    fn change(&mut self, changed: ffi::Changed) -> Result<()> {
-        self.record = accepted(changed)?.state;
-        Ok(())
-    }
-
-    // ---- checkpoints and restores
+    // ---- checkpoints and restores: a record that the calls made is sound, so that no checkpoint of it is refused
 
     /// The present state, with its counters.
+    #[inline]
     pub fn checkpoint(&self) -> Checkpoint {
-        Checkpoint(ffi::clvm_checkpoint_of(self.record).checkpoint)
+        let mut taken = Plain::default();
+        self.held.checkpoint(&mut taken);
+        Checkpoint(taken)
     }
 
     /// Goes back to a checkpoint: all that was made since is gone, and the counters are as they were.
+    #[inline]
     pub fn restore_checkpoint(&mut self, cp: &Checkpoint) -> Result<()> {
-        self.change(self.slots.restore_checkpoint(self.record, cp.0))
+        done(self.held.restore_checkpoint(&cp.0))
     }
 
     /// The present state, without its counters.
+    #[inline]
     pub fn transparent_checkpoint(&self) -> TransparentCheckpoint {
-        TransparentCheckpoint(ffi::clvm_transparent_checkpoint(self.record).checkpoint)
+        let mut taken = Counts::default();
+        self.held.transparent_checkpoint(&mut taken);
+        TransparentCheckpoint(taken)
     }
 
     /// Goes back to a checkpoint: all that was made since is gone, but it stays counted.
+    #[inline]
     pub fn restore_transparent_checkpoint(&mut self, cp: &TransparentCheckpoint) -> Result<()> {
-        self.change(self.slots.restore_transparent(self.record, cp.0))
+        done(self.held.restore_transparent_checkpoint(&cp.0))
     }
 
     /// Whether a node outlives a restore to the checkpoint, and if not whether its bytes do.
+    #[inline]
     pub fn checkpoint_node_status(
         &self,
         checkpoint: &TransparentCheckpoint,
         node: NodePtr,
     ) -> Result<NodeStatus> {
-        let found = accepted(self.slots.status(self.record, checkpoint.0, node))?;
+        let found = self.held.checkpoint_node_status(&checkpoint.0, node.bits());
+        let found = accepted(found)?;
         Ok(match found.status {
             ffi::BEFORE => NodeStatus::Before,
             ffi::AFTER_NEW_BYTES => NodeStatus::AfterNewBytes,
@@ -174,14 +205,14 @@ impl Allocator {
     }
 
     /// Restores to the checkpoint if that is worth it and the node's value can be kept; see [`MaybeRestore`].
+    #[inline]
     pub fn maybe_restore_with_node(
         &mut self,
         checkpoint: &TransparentCheckpoint,
         ret: NodePtr,
     ) -> Result<MaybeRestore> {
-        let restored = self.slots.maybe_restore(self.record, checkpoint.0, ret);
+        let restored = self.held.maybe_restore_with_node(&checkpoint.0, ret.bits());
         let restored = accepted(restored)?;
-        self.record = restored.state;
         Ok(match restored.outcome {
             ffi::NO_REPLACE => MaybeRestore::NoReplace,
             ffi::REPLACE => MaybeRestore::Replace(NodePtr::of(restored.node)),
@@ -192,104 +223,117 @@ impl Allocator {
     // ---- creation
 
     /// A new atom of these bytes.
+    #[inline]
     pub fn new_atom(&mut self, v: &[u8]) -> Result<NodePtr> {
-        self.make_atom(v.len(), |slots, record| slots.new_atom(record, v))
+        self.make_atom(v.len(), |held| held.new_atom(v))
     }
 
     /// A new small atom of a value up to 67,108,863.
+    #[inline]
     pub fn new_small_number(&mut self, v: u32) -> Result<NodePtr> {
-        self.make(|_, record| ffi::clvm_new_small_number(record, v), |_| false)
+        made(self.held.new_small_number(v))
     }
 
     /// A new atom of a number: its shortest bytes.
+    #[inline]
     pub fn new_u64(&mut self, val: u64) -> Result<NodePtr> {
-        self.make_atom(INTEGER, |slots, record| slots.new_u64(record, val))
+        self.make_atom(INTEGER, |held| held.new_u64(val))
     }
 
     /// A new atom of a signed number: its shortest bytes.
+    #[inline]
     pub fn new_i64(&mut self, val: i64) -> Result<NodePtr> {
-        self.make_atom(INTEGER, |slots, record| slots.new_i64(record, val))
+        self.make_atom(INTEGER, |held| held.new_i64(val))
     }
 
     /// A new pair of two nodes.
+    #[inline]
     pub fn new_pair(&mut self, first: NodePtr, rest: NodePtr) -> Result<NodePtr> {
         self.make(
-            |slots, record| slots.new_pair(record, first, rest),
+            |held| held.new_pair(first.bits(), rest.bits()),
             Self::grow_pairs,
         )
     }
 
     /// Counts pairs that the caller keeps elsewhere.
+    #[inline]
     pub fn add_ghost_pair(&mut self, amount: usize) -> Result<()> {
-        self.change(ffi::clvm_add_ghost_pair(self.record, amount))
+        done(self.held.add_ghost_pair(amount))
     }
 
     /// Takes such pairs back, when they are made after all.
+    #[inline]
     pub fn remove_ghost_pair(&mut self, amount: usize) -> Result<()> {
-        self.change(ffi::clvm_remove_ghost_pair(self.record, amount))
+        done(self.held.remove_ghost_pair(amount))
     }
 
     /// Counts atoms that are not stored.
+    #[inline]
     pub fn add_ghost_atom(&mut self, amount: usize) -> Result<()> {
-        self.change(ffi::clvm_add_ghost_atom(self.record, amount))
+        done(self.held.add_ghost_atom(amount))
     }
 
     /// A new atom that is the part of an atom from start up to end.
+    #[inline]
     pub fn new_substr(&mut self, node: NodePtr, start: u32, end: u32) -> Result<NodePtr> {
-        self.make_atom(SMALL, |slots, record| {
-            slots.new_substr(record, node, start, end)
-        })
+        self.make_atom(SMALL, |held| held.new_substr(node.bits(), start, end))
     }
 
     /// A new atom that joins atoms, whose lengths must sum up to the size.
+    #[inline]
     pub fn new_concat(&mut self, new_size: usize, nodes: &[NodePtr]) -> Result<NodePtr> {
-        self.make_atom(new_size, |slots, record| {
-            slots.new_concat(record, new_size, nodes)
-        })
+        let nodes = ffi::numbers(nodes);
+        self.make_atom(new_size, |held| held.new_concat(new_size, nodes))
     }
 
     // ---- reads
 
     /// Whether two atoms have the same bytes.
+    #[inline]
     pub fn atom_eq(&self, lhs: NodePtr, rhs: NodePtr) -> Result<bool> {
-        let found = accepted(self.slots.atom_eq(self.record, lhs, rhs))?;
+        let found = accepted(self.held.atom_eq(lhs.bits(), rhs.bits()))?;
         Ok(found.value == 1)
     }
 
     /// The bytes of an atom.
+    #[inline]
     pub fn atom(&self, node: NodePtr) -> Result<Atom<'_>> {
         let mut scratch = [0; 4];
-        let part = accepted(self.slots.atom(self.record, &mut scratch, node))?;
+        let part = accepted(self.held.atom(&mut scratch, node.bits()))?;
         Ok(match part.place {
             ffi::IN_SCRATCH => Atom::U32(scratch, part.length),
-            _ => Atom::Borrowed(&self.slots.bytes[part.offset..part.offset + part.length]),
+            _ => Atom::Borrowed(&self.held.bytes[part.offset..part.offset + part.length]),
         })
     }
 
     /// How many bytes an atom has.
+    #[inline]
     pub fn atom_len(&self, node: NodePtr) -> Result<usize> {
-        Ok(accepted(self.slots.atom_len(self.record, node))?.value)
+        Ok(accepted(self.held.atom_len(node.bits()))?.value)
     }
 
     /// The value of an atom whose bytes are those of a small one, whatever its kind. A pair has none.
+    #[inline]
     pub fn small_number(&self, node: NodePtr) -> Result<Option<u32>> {
-        Ok(accepted(self.slots.small_number(self.record, node))?.get())
+        Ok(accepted(self.held.small_number(node.bits()))?.get())
     }
 
     /// What a node holds.
+    #[inline]
     pub fn node(&self, node: NodePtr) -> Result<NodeVisitor<'_>> {
-        let found = accepted(self.slots.node(self.record, node))?;
+        let found = accepted(self.held.node(node.bits()))?;
         let bits = |value| NodePtr::of(ffi::low(value));
         Ok(match found.kind as usize {
             ffi::PAIR => NodeVisitor::Pair(bits(found.first), bits(found.second)),
-            ffi::BYTES => NodeVisitor::Buffer(&self.slots.bytes[found.first..found.second]),
+            ffi::BYTES => NodeVisitor::Buffer(&self.held.bytes[found.first..found.second]),
             _ => NodeVisitor::U32(ffi::low(found.first)),
         })
     }
 
     /// Whether a node is an atom, or its two nodes.
+    #[inline]
     pub fn sexp(&self, node: NodePtr) -> Result<SExp> {
-        let found = accepted(self.slots.sexp(self.record, node))?;
+        let found = accepted(self.held.sexp(node.bits()))?;
         Ok(match found.get() {
             Some((first, rest)) => SExp::Pair(first, rest),
             None => SExp::Atom,
@@ -297,16 +341,19 @@ impl Allocator {
     }
 
     /// The two nodes of a pair, for a walk along a list: `while let Some((item, rest)) = a.next(node)? { node = rest; .. }`.
+    #[inline]
     pub fn next(&self, n: NodePtr) -> Result<Option<(NodePtr, NodePtr)>> {
-        Ok(accepted(self.slots.next(self.record, n))?.get())
+        Ok(accepted(self.held.next(n.bits()))?.get())
     }
 
     /// The empty atom.
+    #[inline]
     pub fn nil(&self) -> NodePtr {
         NodePtr::NIL
     }
 
     /// The atom 1.
+    #[inline]
     pub fn one(&self) -> NodePtr {
         NodePtr::ONE
     }
@@ -314,33 +361,39 @@ impl Allocator {
     // ---- counts: a record that the calls made is sound, so none of these is refused
 
     /// How many atoms were made, ghosts among them.
+    #[inline]
     pub fn atom_count(&self) -> usize {
-        ffi::clvm_atom_count(self.record).value
+        self.held.atom_count().value
     }
 
     /// How many atoms are stored.
+    #[inline]
     pub fn allocated_atom_count(&self) -> usize {
-        ffi::clvm_allocated_atom_count(self.record).value
+        self.held.allocated_atom_count().value
     }
 
     /// How many pairs were made, ghosts among them.
+    #[inline]
     pub fn pair_count(&self) -> usize {
-        ffi::clvm_pair_count(self.record).value
+        self.held.pair_count().value
     }
 
     /// How many pairs are stored.
+    #[inline]
     pub fn allocated_pair_count(&self) -> usize {
-        ffi::clvm_allocated_pair_count(self.record).value
+        self.held.allocated_pair_count().value
     }
 
     /// How many bytes the atoms made have, ghosts among them.
+    #[inline]
     pub fn heap_size(&self) -> usize {
-        ffi::clvm_heap_size(self.record).value
+        self.held.heap_size().value
     }
 
     /// How many bytes are stored.
+    #[inline]
     pub fn allocated_heap_size(&self) -> usize {
-        ffi::clvm_allocated_heap_size(self.record).value
+        self.held.allocated_heap_size().value
     }
 }
 

@@ -1,5 +1,5 @@
 //! Why a call was refused.
-use crate::ffi::Answer;
+use crate::ffi::Coded;
 use crate::NodePtr;
 use std::fmt;
 
@@ -112,12 +112,20 @@ impl fmt::Display for EvalErr {
 impl std::error::Error for EvalErr {}
 
 /// An answer of the library, unless it is a refusal.
-pub(crate) fn accepted<T: Answer>(answer: T) -> Result<T> {
-    match answer.code() {
-        0 => Ok(answer),
-        code => Err(EvalErr {
-            code: Code::of(code),
-            node: NodePtr::of(answer.node()),
-        }),
+#[inline]
+pub(crate) fn accepted<T: Coded>(answer: T) -> Result<T> {
+    if answer.code() == 0 {
+        return Ok(answer);
+    }
+    Err(refused(answer.code(), answer.node()))
+}
+
+/// The error of a refusal; apart, so that the way of an accepted answer is short.
+#[cold]
+#[inline(never)]
+fn refused(code: u32, node: u32) -> EvalErr {
+    EvalErr {
+        code: Code::of(code),
+        node: NodePtr::of(node),
     }
 }

@@ -1,8 +1,13 @@
-//! The library's calls, as include/clvm_allocator.h declares them. All unsafe code of this crate is here.
+//! The library's calls, as include/clvm_allocator.h declares them. All unsafe code of this crate is here and in ffi/held.rs.
+//! The record is never copied for a call: the library reads it, and changes it in place, behind a reference.
 use crate::NodePtr;
 
+mod held;
+
+pub use held::Held;
+
 /// How many atoms, pairs and bytes.
-#[derive(Clone, Copy, Debug, PartialEq, Eq)]
+#[derive(Clone, Copy, Debug, Default, PartialEq, Eq)]
 #[repr(C)]
 pub struct Counts {
     pub atoms: usize,
@@ -11,7 +16,7 @@ pub struct Counts {
 }
 
 /// The library's record of seven numbers.
-#[derive(Clone, Copy, Debug)]
+#[derive(Clone, Copy, Debug, Default, PartialEq, Eq)]
 #[repr(C)]
 pub struct Record {
     pub used: Counts,
@@ -20,7 +25,7 @@ pub struct Record {
 }
 
 /// A plain checkpoint.
-#[derive(Clone, Copy, Debug, PartialEq, Eq)]
+#[derive(Clone, Copy, Debug, Default, PartialEq, Eq)]
 #[repr(C)]
 pub struct Plain {
     pub used: Counts,
@@ -28,16 +33,16 @@ pub struct Plain {
 }
 
 /// What every answer begins with.
-pub trait Answer {
+pub trait Coded {
     fn code(&self) -> u32;
     fn node(&self) -> u32;
 }
 
 /// An answer of the library: the code, the node, and what else it holds.
 macro_rules! answers {
-    ($($(#[$doc:meta])* struct $name:ident { $($field:ident: $type:ty),* })*) => {
+    ($(struct $name:ident { $($field:ident: $type:ty),* })*) => {
         $(
-            $(#[$doc])*
+            #[derive(Clone, Copy, Debug)]
             #[repr(C)]
             pub struct $name {
                 pub code: u32,
@@ -45,11 +50,13 @@ macro_rules! answers {
                 $(pub $field: $type),*
             }
 
-            impl Answer for $name {
+            impl Coded for $name {
+                #[inline]
                 fn code(&self) -> u32 {
                     self.code
                 }
 
+                #[inline]
                 fn node(&self) -> u32 {
                     self.node
                 }
@@ -65,15 +72,10 @@ answers! {
     struct Children { is_pair: u32, first: u32, rest: u32 }
     struct Part { place: u32, offset: usize, length: usize }
     struct Status { status: u32, start: usize, end: usize }
-    struct Taken { checkpoint: Plain }
-    struct Marked { checkpoint: Counts }
-    struct Made { state: Record }
-    struct Changed { state: Record }
-    struct Restored { outcome: u32, state: Record }
+    struct Answer {}
+    struct Restored { outcome: u32 }
 }
 
-/// The code of slots that are too short.
-pub const FULL: u32 = 15;
 pub const PAIR: usize = 0;
 pub const BYTES: usize = 1;
 pub const IN_SCRATCH: u32 = 1;
@@ -83,46 +85,50 @@ pub const NO_REPLACE: u32 = 0;
 pub const REPLACE: u32 = 1;
 
 /// A number that the library keeps within 32 bits.
+#[inline]
 pub fn low(value: usize) -> u32 {
     value as u32
 }
 
 impl Optional {
+    #[inline]
     pub fn get(&self) -> Option<u32> {
         (self.some == 1).then_some(self.value)
     }
 }
 
 impl Children {
+    #[inline]
     pub fn get(&self) -> Option<(NodePtr, NodePtr)> {
         (self.is_pair == 1).then(|| (NodePtr::of(self.first), NodePtr::of(self.rest)))
     }
 }
 
-// SAFETY: these have the types of include/clvm_allocator.h, for which include/check.c stands.
+// SAFETY: these have the types of include/clvm_allocator.h, for which include/check.c stands. A call that takes no slice may be
+// made with anything: a reference is to a whole record or checkpoint, and one for writing is to nothing else that is lent.
 unsafe extern "C" {
-    pub safe fn clvm_new_limited(limit: usize) -> Changed;
-    pub safe fn clvm_atom_count(a: Record) -> Number;
-    pub safe fn clvm_allocated_atom_count(a: Record) -> Number;
-    pub safe fn clvm_pair_count(a: Record) -> Number;
-    pub safe fn clvm_allocated_pair_count(a: Record) -> Number;
-    pub safe fn clvm_heap_size(a: Record) -> Number;
-    pub safe fn clvm_allocated_heap_size(a: Record) -> Number;
-    pub safe fn clvm_checkpoint_of(a: Record) -> Taken;
-    pub safe fn clvm_transparent_checkpoint(a: Record) -> Marked;
+    pub safe fn clvm_new_limited(a: &mut Record, limit: usize) -> Answer;
+    pub safe fn clvm_atom_count(a: &Record) -> Number;
+    pub safe fn clvm_allocated_atom_count(a: &Record) -> Number;
+    pub safe fn clvm_pair_count(a: &Record) -> Number;
+    pub safe fn clvm_allocated_pair_count(a: &Record) -> Number;
+    pub safe fn clvm_heap_size(a: &Record) -> Number;
+    pub safe fn clvm_allocated_heap_size(a: &Record) -> Number;
+    pub safe fn clvm_checkpoint_of(a: &Record, k: &mut Plain) -> Answer;
+    pub safe fn clvm_transparent_checkpoint(a: &Record, k: &mut Counts) -> Answer;
     pub safe fn clvm_object_type(n: u32) -> Number;
     pub safe fn clvm_index(n: u32) -> Number;
     pub safe fn clvm_is_atom(n: u32) -> Number;
     pub safe fn clvm_is_pair(n: u32) -> Number;
     pub safe fn clvm_len_for_value(v: u32) -> usize;
-    pub safe fn clvm_new_small_number(a: Record, v: u32) -> Made;
-    pub safe fn clvm_add_ghost_pair(a: Record, amount: usize) -> Changed;
-    pub safe fn clvm_remove_ghost_pair(a: Record, amount: usize) -> Changed;
-    pub safe fn clvm_add_ghost_atom(a: Record, amount: usize) -> Changed;
+    pub safe fn clvm_new_small_number(a: &mut Record, v: u32) -> Answer;
+    pub safe fn clvm_add_ghost_pair(a: &mut Record, amount: usize) -> Answer;
+    pub safe fn clvm_remove_ghost_pair(a: &mut Record, amount: usize) -> Answer;
+    pub safe fn clvm_add_ghost_atom(a: &mut Record, amount: usize) -> Answer;
 
     fn clvm_fits_in_small_atom(v: *const u8, v_len: usize) -> Optional;
     fn clvm_well_formed(
-        a: Record,
+        a: &Record,
         bytes: *const u8,
         bytes_len: usize,
         starts: *const u32,
@@ -135,7 +141,7 @@ unsafe extern "C" {
         rests_len: usize,
     ) -> u32;
     fn clvm_node(
-        a: Record,
+        a: &Record,
         starts: *const u32,
         starts_len: usize,
         ends: *const u32,
@@ -144,26 +150,26 @@ unsafe extern "C" {
         firsts_len: usize,
         rests: *const u32,
         rests_len: usize,
-        n: NodePtr,
+        n: u32,
     ) -> Visited;
     fn clvm_sexp(
-        a: Record,
+        a: &Record,
         firsts: *const u32,
         firsts_len: usize,
         rests: *const u32,
         rests_len: usize,
-        n: NodePtr,
+        n: u32,
     ) -> Children;
     fn clvm_next(
-        a: Record,
+        a: &Record,
         firsts: *const u32,
         firsts_len: usize,
         rests: *const u32,
         rests_len: usize,
-        n: NodePtr,
+        n: u32,
     ) -> Children;
     fn clvm_atom(
-        a: Record,
+        a: &Record,
         bytes: *const u8,
         bytes_len: usize,
         starts: *const u32,
@@ -172,48 +178,48 @@ unsafe extern "C" {
         ends_len: usize,
         scratch: *mut u8,
         scratch_len: usize,
-        n: NodePtr,
+        n: u32,
     ) -> Part;
     fn clvm_atom_len(
-        a: Record,
+        a: &Record,
         starts: *const u32,
         starts_len: usize,
         ends: *const u32,
         ends_len: usize,
-        n: NodePtr,
+        n: u32,
     ) -> Number;
     fn clvm_small_number(
-        a: Record,
+        a: &Record,
         bytes: *const u8,
         bytes_len: usize,
         starts: *const u32,
         starts_len: usize,
         ends: *const u32,
         ends_len: usize,
-        n: NodePtr,
+        n: u32,
     ) -> Optional;
     fn clvm_atom_eq(
-        a: Record,
+        a: &Record,
         bytes: *const u8,
         bytes_len: usize,
         starts: *const u32,
         starts_len: usize,
         ends: *const u32,
         ends_len: usize,
-        lhs: NodePtr,
-        rhs: NodePtr,
+        lhs: u32,
+        rhs: u32,
     ) -> Number;
     fn clvm_checkpoint_node_status(
-        a: Record,
+        a: &Record,
         starts: *const u32,
         starts_len: usize,
         ends: *const u32,
         ends_len: usize,
-        k: Counts,
-        n: NodePtr,
+        k: &Counts,
+        n: u32,
     ) -> Status;
     fn clvm_new_atom(
-        a: Record,
+        a: &mut Record,
         bytes: *mut u8,
         bytes_len: usize,
         starts: *mut u32,
@@ -222,9 +228,9 @@ unsafe extern "C" {
         ends_len: usize,
         v: *const u8,
         v_len: usize,
-    ) -> Made;
+    ) -> Answer;
     fn clvm_new_u64(
-        a: Record,
+        a: &mut Record,
         bytes: *mut u8,
         bytes_len: usize,
         starts: *mut u32,
@@ -232,9 +238,9 @@ unsafe extern "C" {
         ends: *mut u32,
         ends_len: usize,
         x: u64,
-    ) -> Made;
+    ) -> Answer;
     fn clvm_new_i64(
-        a: Record,
+        a: &mut Record,
         bytes: *mut u8,
         bytes_len: usize,
         starts: *mut u32,
@@ -242,30 +248,30 @@ unsafe extern "C" {
         ends: *mut u32,
         ends_len: usize,
         x: i64,
-    ) -> Made;
+    ) -> Answer;
     fn clvm_new_pair(
-        a: Record,
+        a: &mut Record,
         firsts: *mut u32,
         firsts_len: usize,
         rests: *mut u32,
         rests_len: usize,
-        first: NodePtr,
-        rest: NodePtr,
-    ) -> Made;
+        first: u32,
+        rest: u32,
+    ) -> Answer;
     fn clvm_new_substr(
-        a: Record,
+        a: &mut Record,
         bytes: *mut u8,
         bytes_len: usize,
         starts: *mut u32,
         starts_len: usize,
         ends: *mut u32,
         ends_len: usize,
-        n: NodePtr,
+        n: u32,
         start: u32,
         end: u32,
-    ) -> Made;
+    ) -> Answer;
     fn clvm_new_concat(
-        a: Record,
+        a: &mut Record,
         bytes: *mut u8,
         bytes_len: usize,
         starts: *mut u32,
@@ -273,11 +279,11 @@ unsafe extern "C" {
         ends: *mut u32,
         ends_len: usize,
         new_size: usize,
-        nodes: *const NodePtr,
+        nodes: *const u32,
         nodes_len: usize,
-    ) -> Made;
+    ) -> Answer;
     fn clvm_restore_checkpoint(
-        a: Record,
+        a: &mut Record,
         starts: *const u32,
         starts_len: usize,
         ends: *const u32,
@@ -286,10 +292,10 @@ unsafe extern "C" {
         firsts_len: usize,
         rests: *const u32,
         rests_len: usize,
-        k: Plain,
-    ) -> Changed;
+        k: &Plain,
+    ) -> Answer;
     fn clvm_restore_transparent_checkpoint(
-        a: Record,
+        a: &mut Record,
         starts: *const u32,
         starts_len: usize,
         ends: *const u32,
@@ -298,10 +304,10 @@ unsafe extern "C" {
         firsts_len: usize,
         rests: *const u32,
         rests_len: usize,
-        k: Counts,
-    ) -> Changed;
+        k: &Counts,
+    ) -> Answer;
     fn clvm_maybe_restore_with_node(
-        a: Record,
+        a: &mut Record,
         bytes: *mut u8,
         bytes_len: usize,
         starts: *mut u32,
@@ -312,313 +318,21 @@ unsafe extern "C" {
         firsts_len: usize,
         rests: *const u32,
         rests_len: usize,
-        k: Counts,
-        n: NodePtr,
+        k: &Counts,
+        n: u32,
     ) -> Restored;
 }
 
 /// What a byte string is as a small atom.
+#[inline]
 pub fn fits_in_small_atom(v: &[u8]) -> Optional {
-    // SAFETY: as below.
+    // SAFETY: the pointer is that of a live slice, with its own length.
     unsafe { clvm_fits_in_small_atom(v.as_ptr(), v.len()) }
 }
 
-/// The slots that are lent to the calls. A slot that is not used holds anything.
-#[derive(Clone, Debug, Default)]
-pub struct Slots {
-    pub bytes: Vec<u8>,
-    pub starts: Vec<u32>,
-    pub ends: Vec<u32>,
-    pub firsts: Vec<u32>,
-    pub rests: Vec<u32>,
-}
-
-// SAFETY, of every call below: each pointer is that of a live slice and stands before that slice's own length; a slice that is
-// written is borrowed for writing, and is no part of another. The calls ask for nothing else: they are proved to read and write
-// within the lengths given, whatever the record, the nodes and the contents are, and they keep no pointer.
-impl Slots {
-    pub fn well_formed(&self, a: Record) -> bool {
-        let yes = unsafe {
-            clvm_well_formed(
-                a,
-                self.bytes.as_ptr(),
-                self.bytes.len(),
-                self.starts.as_ptr(),
-                self.starts.len(),
-                self.ends.as_ptr(),
-                self.ends.len(),
-                self.firsts.as_ptr(),
-                self.firsts.len(),
-                self.rests.as_ptr(),
-                self.rests.len(),
-            )
-        };
-        yes == 1
-    }
-
-    pub fn node(&self, a: Record, n: NodePtr) -> Visited {
-        unsafe {
-            clvm_node(
-                a,
-                self.starts.as_ptr(),
-                self.starts.len(),
-                self.ends.as_ptr(),
-                self.ends.len(),
-                self.firsts.as_ptr(),
-                self.firsts.len(),
-                self.rests.as_ptr(),
-                self.rests.len(),
-                n,
-            )
-        }
-    }
-
-    pub fn sexp(&self, a: Record, n: NodePtr) -> Children {
-        unsafe {
-            clvm_sexp(
-                a,
-                self.firsts.as_ptr(),
-                self.firsts.len(),
-                self.rests.as_ptr(),
-                self.rests.len(),
-                n,
-            )
-        }
-    }
-
-    pub fn next(&self, a: Record, n: NodePtr) -> Children {
-        unsafe {
-            clvm_next(
-                a,
-                self.firsts.as_ptr(),
-                self.firsts.len(),
-                self.rests.as_ptr(),
-                self.rests.len(),
-                n,
-            )
-        }
-    }
-
-    pub fn atom(&self, a: Record, scratch: &mut [u8; 4], n: NodePtr) -> Part {
-        unsafe {
-            clvm_atom(
-                a,
-                self.bytes.as_ptr(),
-                self.bytes.len(),
-                self.starts.as_ptr(),
-                self.starts.len(),
-                self.ends.as_ptr(),
-                self.ends.len(),
-                scratch.as_mut_ptr(),
-                scratch.len(),
-                n,
-            )
-        }
-    }
-
-    pub fn atom_len(&self, a: Record, n: NodePtr) -> Number {
-        unsafe {
-            clvm_atom_len(
-                a,
-                self.starts.as_ptr(),
-                self.starts.len(),
-                self.ends.as_ptr(),
-                self.ends.len(),
-                n,
-            )
-        }
-    }
-
-    pub fn small_number(&self, a: Record, n: NodePtr) -> Optional {
-        unsafe {
-            clvm_small_number(
-                a,
-                self.bytes.as_ptr(),
-                self.bytes.len(),
-                self.starts.as_ptr(),
-                self.starts.len(),
-                self.ends.as_ptr(),
-                self.ends.len(),
-                n,
-            )
-        }
-    }
-
-    pub fn atom_eq(&self, a: Record, lhs: NodePtr, rhs: NodePtr) -> Number {
-        unsafe {
-            clvm_atom_eq(
-                a,
-                self.bytes.as_ptr(),
-                self.bytes.len(),
-                self.starts.as_ptr(),
-                self.starts.len(),
-                self.ends.as_ptr(),
-                self.ends.len(),
-                lhs,
-                rhs,
-            )
-        }
-    }
-
-    pub fn status(&self, a: Record, k: Counts, n: NodePtr) -> Status {
-        unsafe {
-            clvm_checkpoint_node_status(
-                a,
-                self.starts.as_ptr(),
-                self.starts.len(),
-                self.ends.as_ptr(),
-                self.ends.len(),
-                k,
-                n,
-            )
-        }
-    }
-
-    pub fn new_atom(&mut self, a: Record, v: &[u8]) -> Made {
-        unsafe {
-            clvm_new_atom(
-                a,
-                self.bytes.as_mut_ptr(),
-                self.bytes.len(),
-                self.starts.as_mut_ptr(),
-                self.starts.len(),
-                self.ends.as_mut_ptr(),
-                self.ends.len(),
-                v.as_ptr(),
-                v.len(),
-            )
-        }
-    }
-
-    pub fn new_u64(&mut self, a: Record, x: u64) -> Made {
-        unsafe {
-            clvm_new_u64(
-                a,
-                self.bytes.as_mut_ptr(),
-                self.bytes.len(),
-                self.starts.as_mut_ptr(),
-                self.starts.len(),
-                self.ends.as_mut_ptr(),
-                self.ends.len(),
-                x,
-            )
-        }
-    }
-
-    pub fn new_i64(&mut self, a: Record, x: i64) -> Made {
-        unsafe {
-            clvm_new_i64(
-                a,
-                self.bytes.as_mut_ptr(),
-                self.bytes.len(),
-                self.starts.as_mut_ptr(),
-                self.starts.len(),
-                self.ends.as_mut_ptr(),
-                self.ends.len(),
-                x,
-            )
-        }
-    }
-
-    pub fn new_pair(&mut self, a: Record, first: NodePtr, rest: NodePtr) -> Made {
-        unsafe {
-            clvm_new_pair(
-                a,
-                self.firsts.as_mut_ptr(),
-                self.firsts.len(),
-                self.rests.as_mut_ptr(),
-                self.rests.len(),
-                first,
-                rest,
-            )
-        }
-    }
-
-    pub fn new_substr(&mut self, a: Record, n: NodePtr, start: u32, end: u32) -> Made {
-        unsafe {
-            clvm_new_substr(
-                a,
-                self.bytes.as_mut_ptr(),
-                self.bytes.len(),
-                self.starts.as_mut_ptr(),
-                self.starts.len(),
-                self.ends.as_mut_ptr(),
-                self.ends.len(),
-                n,
-                start,
-                end,
-            )
-        }
-    }
-
-    pub fn new_concat(&mut self, a: Record, new_size: usize, nodes: &[NodePtr]) -> Made {
-        unsafe {
-            clvm_new_concat(
-                a,
-                self.bytes.as_mut_ptr(),
-                self.bytes.len(),
-                self.starts.as_mut_ptr(),
-                self.starts.len(),
-                self.ends.as_mut_ptr(),
-                self.ends.len(),
-                new_size,
-                nodes.as_ptr(),
-                nodes.len(),
-            )
-        }
-    }
-
-    pub fn restore_checkpoint(&self, a: Record, k: Plain) -> Changed {
-        unsafe {
-            clvm_restore_checkpoint(
-                a,
-                self.starts.as_ptr(),
-                self.starts.len(),
-                self.ends.as_ptr(),
-                self.ends.len(),
-                self.firsts.as_ptr(),
-                self.firsts.len(),
-                self.rests.as_ptr(),
-                self.rests.len(),
-                k,
-            )
-        }
-    }
-
-    pub fn restore_transparent(&self, a: Record, k: Counts) -> Changed {
-        unsafe {
-            clvm_restore_transparent_checkpoint(
-                a,
-                self.starts.as_ptr(),
-                self.starts.len(),
-                self.ends.as_ptr(),
-                self.ends.len(),
-                self.firsts.as_ptr(),
-                self.firsts.len(),
-                self.rests.as_ptr(),
-                self.rests.len(),
-                k,
-            )
-        }
-    }
-
-    pub fn maybe_restore(&mut self, a: Record, k: Counts, n: NodePtr) -> Restored {
-        unsafe {
-            clvm_maybe_restore_with_node(
-                a,
-                self.bytes.as_mut_ptr(),
-                self.bytes.len(),
-                self.starts.as_mut_ptr(),
-                self.starts.len(),
-                self.ends.as_mut_ptr(),
-                self.ends.len(),
-                self.firsts.as_ptr(),
-                self.firsts.len(),
-                self.rests.as_ptr(),
-                self.rests.len(),
-                k,
-                n,
-            )
-        }
-    }
+/// Nodes as the library numbers them.
+#[inline]
+pub fn numbers(nodes: &[NodePtr]) -> &[u32] {
+    // SAFETY: a NodePtr is a transparent u32, so that a slice of the one has the layout of a slice of the other.
+    unsafe { std::slice::from_raw_parts(nodes.as_ptr().cast(), nodes.len()) }
 }

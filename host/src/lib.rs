@@ -41,8 +41,10 @@
 
 mod allocator;
 mod error;
+// Hidden: no part of what this crate offers. The comparison with the Rust (differential, bench) makes the library's calls by it.
 #[allow(unsafe_code)]
-mod ffi;
+#[doc(hidden)]
+pub mod ffi;
 mod node;
 
 pub use allocator::{Allocator, Checkpoint, TransparentCheckpoint};

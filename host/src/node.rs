@@ -30,11 +30,13 @@ impl NodePtr {
     pub(crate) const ONE: NodePtr = NodePtr(134217729);
 
     /// A node that the library answered.
+    #[inline]
     pub(crate) fn of(bits: u32) -> NodePtr {
         NodePtr(bits)
     }
 
     /// The node of these bits, if they have a kind. Whether it is valid depends on the state it is used in.
+    #[inline]
     pub fn from_bits(bits: u32) -> Option<NodePtr> {
         accepted(ffi::clvm_object_type(bits))
             .ok()
@@ -42,21 +44,25 @@ impl NodePtr {
     }
 
     /// The node as a number: the kind in the top 6 bits, the index in the low 26.
+    #[inline]
     pub fn bits(self) -> u32 {
         self.0
     }
 
     /// Whether the node is an atom.
+    #[inline]
     pub fn is_atom(self) -> bool {
         ffi::clvm_is_atom(self.0).value == 1
     }
 
     /// Whether the node is a pair.
+    #[inline]
     pub fn is_pair(self) -> bool {
         ffi::clvm_is_pair(self.0).value == 1
     }
 
     /// The node's kind.
+    #[inline]
     pub fn object_type(self) -> ObjectType {
         match ffi::clvm_object_type(self.0).value {
             ffi::PAIR => ObjectType::Pair,
@@ -66,6 +72,7 @@ impl NodePtr {
     }
 
     /// The node's index among those of its kind; of a small atom, its value.
+    #[inline]
     pub fn index(self) -> u32 {
         ffi::low(ffi::clvm_index(self.0).value)
     }
@@ -143,6 +150,7 @@ pub enum Atom<'a> {
 }
 
 impl AsRef<[u8]> for Atom<'_> {
+    #[inline]
     fn as_ref(&self) -> &[u8] {
         match self {
             Self::Borrowed(bytes) => bytes,
@@ -154,6 +162,7 @@ impl AsRef<[u8]> for Atom<'_> {
 impl Deref for Atom<'_> {
     type Target = [u8];
 
+    #[inline]
     fn deref(&self) -> &[u8] {
         self.as_ref()
     }
@@ -178,11 +187,13 @@ impl Hash for Atom<'_> {
 }
 
 /// The value of bytes that are the shortest form of a number below 2^26.
+#[inline]
 pub fn fits_in_small_atom(v: &[u8]) -> Option<u32> {
     ffi::fits_in_small_atom(v).get()
 }
 
 /// How many bytes the shortest form of a value takes.
+#[inline]
 pub fn len_for_value(val: u32) -> usize {
     ffi::clvm_len_for_value(val)
 }

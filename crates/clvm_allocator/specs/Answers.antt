@@ -2,26 +2,21 @@
 -- and nil where it makes no node.
 use Prim.Native.Nat.{ℕ, _-_}
 use mathlib.Core.Bool.{Bool, true, false}
+use mathlib.Core.List.{List}
 use mathlib.Core.Option.{Option, none, some}
-use Rattle.rules.specs.declared.Counts.{Counts}
-use Rattle.rules.specs.declared.Allocator.{Allocator}
-use Rattle.rules.specs.declared.Checkpoint.{Checkpoint}
 use Rattle.rules.specs.Node.{nil}
 use Rattle.rules.specs.Small.{lenFor}
-use Rattle.rules.specs.Said.{Said, says, refuses, Done, done, Out}
-use Rattle.rules.specs.State.{counts}
+use Rattle.rules.specs.Said.{Said, says, refuses, Done, done, NoLists, noLists, Out}
 use Rattle.rules.specs.Reads.{Kind, pairKind, bytesKind, smallKind, Atom, range, value, Visited, buffer, number, children, Sexp, atomic, branch, Status, before, afterNewBytes, afterOldBytes}
 use Rattle.rules.specs.Restores.{Restoring, noReplace, replace, aborted}
+use Rattle.clvm_allocator.specs.Rows.{recordRow}
 use Rattle.clvm_allocator.specs.declared.answers.CNumber.{CNumber}
 use Rattle.clvm_allocator.specs.declared.answers.COption.{COption}
 use Rattle.clvm_allocator.specs.declared.answers.CVisited.{CVisited}
 use Rattle.clvm_allocator.specs.declared.answers.CChildren.{CChildren}
 use Rattle.clvm_allocator.specs.declared.answers.CPart.{CPart}
 use Rattle.clvm_allocator.specs.declared.answers.CStatus.{CStatus}
-use Rattle.clvm_allocator.specs.declared.answers.CTaken.{CTaken}
-use Rattle.clvm_allocator.specs.declared.answers.CMarked.{CMarked}
-use Rattle.clvm_allocator.specs.declared.answers.CMade.{CMade}
-use Rattle.clvm_allocator.specs.declared.answers.CChanged.{CChanged}
+use Rattle.clvm_allocator.specs.declared.answers.CAnswer.{CAnswer}
 use Rattle.clvm_allocator.specs.declared.answers.CRestored.{CRestored}
 
 -- yes is 1, no is 0
@@ -78,40 +73,40 @@ statusC (says afterNewBytes) = standing 1 0 0
 statusC (says (afterOldBytes start end)) = standing 2 start end
 statusC (refuses code node) = record { code = code; node = node; status = 0; start = 0; end = 0 }
 
--- checkpoint
-abbrev pub takenC : Said Checkpoint → CTaken
-takenC (says k) = record { code = 0; node = nil; checkpoint = k }
-takenC (refuses code node) =
-    record { code = code; node = node; checkpoint = record { used = counts 0 0 0; ghosts = counts 0 0 0 } }
+-- the node of a creating call
+abbrev pub answerC : Said ℕ → CAnswer
+answerC (says n) = record { code = 0; node = n }
+answerC (refuses code node) = record { code = code; node = node }
 
--- transparent_checkpoint
-abbrev pub markedC : Said Counts → CMarked
-markedC (says k) = record { code = 0; node = nil; checkpoint = k }
-markedC (refuses code node) = record { code = code; node = node; checkpoint = counts 0 0 0 }
+-- a call that makes no node
+abbrev pub doneC : Said Done → CAnswer
+doneC (says done) = record { code = 0; node = nil }
+doneC (refuses code node) = record { code = code; node = node }
 
--- the node of a creating call, with the record that it leaves
-abbrev pub madeBy : Said ℕ → Allocator → CMade
-madeBy (says n) a = record { code = 0; node = n; state = a }
-madeBy (refuses code node) a = record { code = code; node = node; state = a }
+-- maybe_restore_with_node
+abbrev pub went : ℕ → ℕ → CRestored
+went node outcome = record { code = 0; node = node; outcome = outcome }
 
--- a call that makes no node, with the record that it leaves
-abbrev pub changedBy : Said Done → Allocator → CChanged
-changedBy (says done) a = record { code = 0; node = nil; state = a }
-changedBy (refuses code node) a = record { code = code; node = node; state = a }
+abbrev pub restoredC : Said Restoring → CRestored
+restoredC (says noReplace) = went nil 0
+restoredC (says (replace n)) = went n 1
+restoredC (says aborted) = went nil 2
+restoredC (refuses code node) = record { code = code; node = node; outcome = 0 }
 
--- maybe_restore_with_node, with the record that it leaves
-abbrev pub restoredBy : Said Restoring → Allocator → CRestored
-restoredBy (says noReplace) a = record { code = 0; node = nil; outcome = 0; state = a }
-restoredBy (says (replace n)) a = record { code = 0; node = n; outcome = 1; state = a }
-restoredBy (says aborted) a = record { code = 0; node = nil; outcome = 2; state = a }
-restoredBy (refuses code node) a = record { code = code; node = node; outcome = 0; state = a }
+-- all that a call gives: its answer, the row that it was lent for writing, and the lists, as it leaves them
+pub record Given (R L : Type 0) : Type 0 where
+  pub answer : R
+  pub row : List ℕ
+  pub lent : L
 
--- the same of all that a call gives; what it was lent stands beside, in the contract's second half
-abbrev pub madeC : {L : Type 0} → Out ℕ L → CMade
-madeC o = madeBy (o .said) (o .rec)
+abbrev pub given : {R L : Type 0} → R → List ℕ → L → Given R L
+given r row s = record { answer = r; row = row; lent = s }
 
-abbrev pub changedC : {L : Type 0} → Out Done L → CChanged
-changedC o = changedBy (o .said) (o .rec)
+-- a call that may change the record: its answer as numbers, and the record as a row
+abbrev pub crossed : {A R L : Type 0} → (Said A → R) → Out A L → Given R L
+crossed f o = given (f (o .said)) (recordRow (o .rec)) (o .lent)
 
-abbrev pub restoredC : {L : Type 0} → Out Restoring L → CRestored
-restoredC o = restoredBy (o .said) (o .rec)
+-- a call that takes a checkpoint: a refusal leaves the checkpoint's row as it was
+abbrev pub takenC : {K : Type 0} → (K → List ℕ) → List ℕ → Said K → Given CAnswer NoLists
+takenC row old (says k) = given (doneC (says done)) (row k) noLists
+takenC row old (refuses code node) = given (doneC (refuses code node)) old noLists

@@ -1,7 +1,7 @@
 // A node's bits, and what bytes or a value are as a small atom: no record is asked for.
-use super::answers;
 use super::answers::CNumber;
 use super::answers::COption;
+use super::crossing;
 ghost use mathlib.Core.Path.{_≡_};
 ghost use Rattle.rules.specs.Small.{fits, lenFor};
 ghost use Rattle.rules.specs.Said.{says, saysOf};
@@ -13,7 +13,7 @@ pub extern "C" fn clvm_object_type(n: u32) -> CNumber
     ensures { λ r. ⌜ r ≡ numberC (saysOf kindNumber (objectType n)) ⌝ }
 {
     let found = node::object_type(n);
-    answers::of_kind(found)
+    crossing::of_kind(found)
 }
 
 #[no_mangle]
@@ -21,7 +21,7 @@ pub extern "C" fn clvm_index(n: u32) -> CNumber
     ensures { λ r. ⌜ r ≡ numberC (nodeIndex n) ⌝ }
 {
     let found = node::index(n);
-    answers::of_number(found)
+    crossing::of_number(found)
 }
 
 #[no_mangle]
@@ -29,7 +29,7 @@ pub extern "C" fn clvm_is_atom(n: u32) -> CNumber
     ensures { λ r. ⌜ r ≡ numberC (saysOf bit (isAtom n)) ⌝ }
 {
     let found = node::is_atom(n);
-    answers::of_truth(found)
+    crossing::of_truth(found)
 }
 
 #[no_mangle]
@@ -37,7 +37,7 @@ pub extern "C" fn clvm_is_pair(n: u32) -> CNumber
     ensures { λ r. ⌜ r ≡ numberC (saysOf bit (isPair n)) ⌝ }
 {
     let found = node::is_pair(n);
-    answers::of_truth(found)
+    crossing::of_truth(found)
 }
 
 #[no_mangle]
@@ -45,7 +45,7 @@ pub extern "C" fn clvm_fits_in_small_atom(v: &[u8]) -> COption
     ensures { λ r. ⌜ r ≡ optionC (says (fits (now (v .entry)))) ⌝ }
 {
     let found = node::fits_in_small_atom(v);
-    answers::of_fits(found)
+    crossing::of_fits(found)
 }
 
 #[no_mangle]

@@ -1,139 +1,153 @@
-// The calls that count: atoms, integers, pairs, ghosts, parts of atoms and atoms joined. The first half of a contract is the answer with the record, the
-// second the lent lists.
-use super::answers;
-use super::answers::CChanged;
-use super::answers::CMade;
+// The calls that count: atoms, integers, pairs, ghosts, parts of atoms and atoms joined. One equation is a call's contract: the answer, the record's row
+// and the lent lists as the call leaves them.
+use super::answers::CAnswer;
+use super::crossing;
+use super::rows;
 use creates::atom;
 use creates::ghosts;
 use creates::pair;
 use creates::substr;
-use rules::Allocator;
 ghost use mathlib.Core.Path.{_≡_};
+ghost use Rattle.rules.specs.Said.{noLists};
 ghost use Rattle.rules.specs.State.{store, atomSlots, pairSlots};
 ghost use Rattle.rules.specs.Creates.{newAtom, newSmallNumber, newU64, newI64, newPair, addGhostPair, removeGhostPair, addGhostAtom, newSubstr, newConcat};
-ghost use Rattle.clvm_allocator.specs.Answers.{madeC, changedC};
+ghost use Rattle.clvm_allocator.specs.Answers.{given, crossed, answerC, doneC};
+ghost use Rattle.clvm_allocator.specs.Rows.{recordOf};
 
 #[no_mangle]
 pub extern "C" fn clvm_new_atom(
-    a: Allocator,
+    a: &mut [usize; 7],
     bytes: &mut [u8],
     starts: &mut [u32],
     ends: &mut [u32],
     v: &[u8],
-) -> CMade
-    ensures { λ r. ⌜ r ≡ madeC (newAtom a (now (v .entry)) (store (now (bytes .entry)) (atomSlots (now (starts .entry)) (now (ends .entry))))) ⌝ }
-    ensures { λ _. ⌜ store (now (bytes .exit)) (atomSlots (now (starts .exit)) (now (ends .exit))) ≡ (newAtom a (now (v .entry)) (store (now (bytes .entry)) (atomSlots (now (starts .entry)) (now (ends .entry))))) .lent ⌝ }
+) -> CAnswer
+    ensures { λ r. ⌜ given r (now (a .exit)) (store (now (bytes .exit)) (atomSlots (now (starts .exit)) (now (ends .exit)))) ≡ crossed answerC (newAtom (recordOf (now (a .entry))) (now (v .entry)) (store (now (bytes .entry)) (atomSlots (now (starts .entry)) (now (ends .entry))))) ⌝ }
 {
-    let made = atom::new_atom(a, bytes, starts, ends, v);
-    answers::of_made(made)
+    let made = atom::new_atom(rows::record(a), bytes, starts, ends, v);
+    let answer = made.answer;
+    *a = rows::of_record(made.state);
+    crossing::of_answer(answer)
 }
 
 #[no_mangle]
-pub extern "C" fn clvm_new_small_number(a: Allocator, v: u32) -> CMade
-    ensures { λ r. ⌜ r ≡ madeC (newSmallNumber a v) ⌝ }
+pub extern "C" fn clvm_new_small_number(a: &mut [usize; 7], v: u32) -> CAnswer
+    ensures { λ r. ⌜ given r (now (a .exit)) noLists ≡ crossed answerC (newSmallNumber (recordOf (now (a .entry))) v) ⌝ }
 {
-    let made = atom::new_small_number(a, v);
-    answers::of_made(made)
+    let made = atom::new_small_number(rows::record(a), v);
+    let answer = made.answer;
+    *a = rows::of_record(made.state);
+    crossing::of_answer(answer)
 }
 
+// The integers go through clvm_new_atom, which changes the row in its place; the calls beneath would hand the record on by value.
 #[no_mangle]
 pub extern "C" fn clvm_new_u64(
-    a: Allocator,
+    a: &mut [usize; 7],
     bytes: &mut [u8],
     starts: &mut [u32],
     ends: &mut [u32],
     x: u64,
-) -> CMade
-    ensures { λ r. ⌜ r ≡ madeC (newU64 a x (store (now (bytes .entry)) (atomSlots (now (starts .entry)) (now (ends .entry))))) ⌝ }
-    ensures { λ _. ⌜ store (now (bytes .exit)) (atomSlots (now (starts .exit)) (now (ends .exit))) ≡ (newU64 a x (store (now (bytes .entry)) (atomSlots (now (starts .entry)) (now (ends .entry))))) .lent ⌝ }
+) -> CAnswer
+    ensures { λ r. ⌜ given r (now (a .exit)) (store (now (bytes .exit)) (atomSlots (now (starts .exit)) (now (ends .exit)))) ≡ crossed answerC (newU64 (recordOf (now (a .entry))) x (store (now (bytes .entry)) (atomSlots (now (starts .entry)) (now (ends .entry))))) ⌝ }
 {
-    let made = atom::new_u64(a, bytes, starts, ends, x);
-    answers::of_made(made)
+    let mut buf = [0u8; 9];
+    let n = integer::write_u64(&mut buf, x);
+    clvm_new_atom(a, bytes, starts, ends, &buf[..n])
 }
 
 #[no_mangle]
 pub extern "C" fn clvm_new_i64(
-    a: Allocator,
+    a: &mut [usize; 7],
     bytes: &mut [u8],
     starts: &mut [u32],
     ends: &mut [u32],
     x: i64,
-) -> CMade
-    ensures { λ r. ⌜ r ≡ madeC (newI64 a x (store (now (bytes .entry)) (atomSlots (now (starts .entry)) (now (ends .entry))))) ⌝ }
-    ensures { λ _. ⌜ store (now (bytes .exit)) (atomSlots (now (starts .exit)) (now (ends .exit))) ≡ (newI64 a x (store (now (bytes .entry)) (atomSlots (now (starts .entry)) (now (ends .entry))))) .lent ⌝ }
+) -> CAnswer
+    ensures { λ r. ⌜ given r (now (a .exit)) (store (now (bytes .exit)) (atomSlots (now (starts .exit)) (now (ends .exit)))) ≡ crossed answerC (newI64 (recordOf (now (a .entry))) x (store (now (bytes .entry)) (atomSlots (now (starts .entry)) (now (ends .entry))))) ⌝ }
 {
-    let made = atom::new_i64(a, bytes, starts, ends, x);
-    answers::of_made(made)
+    let mut buf = [0u8; 9];
+    let n = integer::write_i64(&mut buf, x);
+    clvm_new_atom(a, bytes, starts, ends, &buf[..n])
 }
 
 #[no_mangle]
 pub extern "C" fn clvm_new_pair(
-    a: Allocator,
+    a: &mut [usize; 7],
     firsts: &mut [u32],
     rests: &mut [u32],
     first: u32,
     rest: u32,
-) -> CMade
-    ensures { λ r. ⌜ r ≡ madeC (newPair a first rest (pairSlots (now (firsts .entry)) (now (rests .entry)))) ⌝ }
-    ensures { λ _. ⌜ pairSlots (now (firsts .exit)) (now (rests .exit)) ≡ (newPair a first rest (pairSlots (now (firsts .entry)) (now (rests .entry)))) .lent ⌝ }
+) -> CAnswer
+    ensures { λ r. ⌜ given r (now (a .exit)) (pairSlots (now (firsts .exit)) (now (rests .exit))) ≡ crossed answerC (newPair (recordOf (now (a .entry))) first rest (pairSlots (now (firsts .entry)) (now (rests .entry)))) ⌝ }
 {
-    let made = pair::new_pair(a, firsts, rests, first, rest);
-    answers::of_made(made)
+    let made = pair::new_pair(rows::record(a), firsts, rests, first, rest);
+    let answer = made.answer;
+    *a = rows::of_record(made.state);
+    crossing::of_answer(answer)
 }
 
 #[no_mangle]
-pub extern "C" fn clvm_add_ghost_pair(a: Allocator, amount: usize) -> CChanged
-    ensures { λ r. ⌜ r ≡ changedC (addGhostPair a amount) ⌝ }
+pub extern "C" fn clvm_add_ghost_pair(a: &mut [usize; 7], amount: usize) -> CAnswer
+    ensures { λ r. ⌜ given r (now (a .exit)) noLists ≡ crossed doneC (addGhostPair (recordOf (now (a .entry))) amount) ⌝ }
 {
-    let changed = ghosts::add_ghost_pair(a, amount);
-    answers::of_changed(changed)
+    let changed = ghosts::add_ghost_pair(rows::record(a), amount);
+    let verdict = changed.verdict;
+    *a = rows::of_record(changed.state);
+    crossing::of_verdict(verdict)
 }
 
 #[no_mangle]
-pub extern "C" fn clvm_remove_ghost_pair(a: Allocator, amount: usize) -> CChanged
-    ensures { λ r. ⌜ r ≡ changedC (removeGhostPair a amount) ⌝ }
+pub extern "C" fn clvm_remove_ghost_pair(a: &mut [usize; 7], amount: usize) -> CAnswer
+    ensures { λ r. ⌜ given r (now (a .exit)) noLists ≡ crossed doneC (removeGhostPair (recordOf (now (a .entry))) amount) ⌝ }
 {
-    let changed = ghosts::remove_ghost_pair(a, amount);
-    answers::of_changed(changed)
+    let changed = ghosts::remove_ghost_pair(rows::record(a), amount);
+    let verdict = changed.verdict;
+    *a = rows::of_record(changed.state);
+    crossing::of_verdict(verdict)
 }
 
 #[no_mangle]
-pub extern "C" fn clvm_add_ghost_atom(a: Allocator, amount: usize) -> CChanged
-    ensures { λ r. ⌜ r ≡ changedC (addGhostAtom a amount) ⌝ }
+pub extern "C" fn clvm_add_ghost_atom(a: &mut [usize; 7], amount: usize) -> CAnswer
+    ensures { λ r. ⌜ given r (now (a .exit)) noLists ≡ crossed doneC (addGhostAtom (recordOf (now (a .entry))) amount) ⌝ }
 {
-    let changed = ghosts::add_ghost_atom(a, amount);
-    answers::of_changed(changed)
+    let changed = ghosts::add_ghost_atom(rows::record(a), amount);
+    let verdict = changed.verdict;
+    *a = rows::of_record(changed.state);
+    crossing::of_verdict(verdict)
 }
 
 #[no_mangle]
 pub extern "C" fn clvm_new_substr(
-    a: Allocator,
+    a: &mut [usize; 7],
     bytes: &mut [u8],
     starts: &mut [u32],
     ends: &mut [u32],
     n: u32,
     start: u32,
     end: u32,
-) -> CMade
-    ensures { λ r. ⌜ r ≡ madeC (newSubstr a n start end (store (now (bytes .entry)) (atomSlots (now (starts .entry)) (now (ends .entry))))) ⌝ }
-    ensures { λ _. ⌜ store (now (bytes .exit)) (atomSlots (now (starts .exit)) (now (ends .exit))) ≡ (newSubstr a n start end (store (now (bytes .entry)) (atomSlots (now (starts .entry)) (now (ends .entry))))) .lent ⌝ }
+) -> CAnswer
+    ensures { λ r. ⌜ given r (now (a .exit)) (store (now (bytes .exit)) (atomSlots (now (starts .exit)) (now (ends .exit)))) ≡ crossed answerC (newSubstr (recordOf (now (a .entry))) n start end (store (now (bytes .entry)) (atomSlots (now (starts .entry)) (now (ends .entry))))) ⌝ }
 {
-    let made = substr::new_substr(a, bytes, starts, ends, n, start, end);
-    answers::of_made(made)
+    let made = substr::new_substr(rows::record(a), bytes, starts, ends, n, start, end);
+    let answer = made.answer;
+    *a = rows::of_record(made.state);
+    crossing::of_answer(answer)
 }
 
 #[no_mangle]
 pub extern "C" fn clvm_new_concat(
-    a: Allocator,
+    a: &mut [usize; 7],
     bytes: &mut [u8],
     starts: &mut [u32],
     ends: &mut [u32],
     new_size: usize,
     nodes: &[u32],
-) -> CMade
-    ensures { λ r. ⌜ r ≡ madeC (newConcat a «new_size» (now (nodes .entry)) (store (now (bytes .entry)) (atomSlots (now (starts .entry)) (now (ends .entry))))) ⌝ }
-    ensures { λ _. ⌜ store (now (bytes .exit)) (atomSlots (now (starts .exit)) (now (ends .exit))) ≡ (newConcat a «new_size» (now (nodes .entry)) (store (now (bytes .entry)) (atomSlots (now (starts .entry)) (now (ends .entry))))) .lent ⌝ }
+) -> CAnswer
+    ensures { λ r. ⌜ given r (now (a .exit)) (store (now (bytes .exit)) (atomSlots (now (starts .exit)) (now (ends .exit)))) ≡ crossed answerC (newConcat (recordOf (now (a .entry))) «new_size» (now (nodes .entry)) (store (now (bytes .entry)) (atomSlots (now (starts .entry)) (now (ends .entry))))) ⌝ }
 {
-    let made = concat::new_concat(a, bytes, starts, ends, new_size, nodes);
-    answers::of_made(made)
+    let made = concat::new_concat(rows::record(a), bytes, starts, ends, new_size, nodes);
+    let answer = made.answer;
+    *a = rows::of_record(made.state);
+    crossing::of_answer(answer)
 }

@@ -3,6 +3,8 @@
 pub mod answers;
 pub mod bits;
 pub mod creation;
+mod crossing;
 pub mod lookup;
 pub mod record;
 pub mod restoring;
+pub mod rows;

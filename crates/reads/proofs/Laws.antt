@@ -7,8 +7,8 @@ use mathlib.Core.Option.{none, some}
 use native.Mathlib.Numerals.{add-one}
 use native.Mathlib.Omega.{arith}
 use lib.Dec.{eqb}
-use lib.ListN.{length, getD, take, drop, length-drop, drop-of-length-le}
-use lib.Seq.{drop-cons, take-all}
+use lib.ListN.{length, getD, take, drop, length-drop, drop-of-length-le, take-append-drop}
+use lib.Seq.{drop-cons, drop-drop, take-all}
 use borrow.Author.Tests.{eq-eqb, ne-eqb, eqb-true}
 use Rattle.rules.specs.declared.Allocator.{Allocator}
 use Rattle.rules.specs.Small.{fits, lenFor, be, smallBytes, Octets}
@@ -67,6 +67,26 @@ same-stop x y i h k e = rw (drop-cons x i 0 h, drop-cons y i 0 k, ne-eqb _ _ e)
 pub same-end : (x y : List ℕ) (i : ℕ) → length x ≤ i → length y ≤ i → sameBytes (drop i x) (drop i y) ≡ true
 unfolding sameBytes
 same-end x y i h k = rw (drop-of-length-le x {i = i} h, drop-of-length-le y {i = i} k)
+
+-- ---- a block that agrees leaves the rests to compare
+
+same-front : (p x y : List ℕ) → sameBytes (p ++ x) (p ++ y) ≡ sameBytes x y
+unfolding sameBytes
+same-front [] x y = refl
+same-front (a ∷ p) x y = rw (eq-eqb a a refl) (same-front p x y)
+
+pub same-block : (x y : List ℕ) (n i : ℕ) → sameBytes (take n (drop i x)) (take n (drop i y)) ≡ true
+    → sameBytes (drop i x) (drop i y) ≡ sameBytes (drop (i + n) x) (drop (i + n) y)
+same-block x y n i h =
+    ap₂ sameBytes (sym (take-append-drop n (drop i x))) (sym (take-append-drop n (drop i y)))
+    ∙ ap (λ p. sameBytes (take n (drop i x) ++ drop n (drop i x)) (p ++ drop n (drop i y))) (sym (same-true (take n (drop i x)) (take n (drop i y)) h))
+    ∙ same-front (take n (drop i x)) (drop n (drop i x)) (drop n (drop i y))
+    ∙ ap₂ sameBytes (drop-drop n i x) (drop-drop n i y)
+
+-- one that does not leaves the rests unequal
+pub odd-block : (x y : List ℕ) (n : ℕ) → sameBytes (take n x) (take n y) ≡ false → sameBytes x y ≡ false
+odd-block x y n h =
+    decided x y false (λ k. absurd (false≢true k)) (λ e. absurd (false≢true (sym h ∙ ap (λ z. sameBytes (take n z) (take n y)) e ∙ same-refl (take n y))))
 
 -- ---- a small value's bytes
 

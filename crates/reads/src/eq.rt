@@ -6,10 +6,11 @@ use rules::Code;
 use rules::Fits;
 use rules::Truth;
 use state::sound;
-ghost use Prim.Native.Nat.{ℕ, _<_};
+ghost use Prim.Native.Nat.{ℕ, _-_, _≤_, _<_};
 ghost use mathlib.Core.List.{List};
+ghost use mathlib.Core.Bool.{false};
 ghost use mathlib.Core.Path.{_≡_};
-ghost use lib.ListN.{length};
+ghost use lib.ListN.{length, drop};
 ghost use Rattle.rules.specs.Small.{smallBytes};
 ghost use Rattle.rules.specs.Said.{says, saysOf};
 ghost use Rattle.rules.specs.State.{store, atomSlots};
@@ -17,22 +18,63 @@ ghost use Rattle.rules.specs.Reads.{pairArg, atomArg, atomBytes, sameBytes, eqA
 ghost use Rattle.rules.specs.Paper.{argPaper, atomPaper, truthPaper};
 ghost use Rattle.reads.specs.Parts.{Inside};
 
-// Whether two byte strings are equal.
+// The blocks by which long atoms are compared.
+const LARGE: usize = 32;
+
+const SMALL: usize = 8;
+
+// Whether two byte strings of one length are equal. Every byte is looked at, with no way out of the loop, so that the machine can compare
+// many at once.
+fn agree(x: &[u8], y: &[u8]) -> bool
+    requires { ⌜ length (now x) ≡ length (now y) ⌝ }
+    ensures { λ r. ⌜ r ≡ sameBytes (now (x .entry)) (now (y .entry)) ⌝ }
+{
+    let mut odd: u8 = 0;
+    let mut i = 0;
+    while i < x.len() {
+        if x[i] == y[i] {
+            i += 1;
+        } else {
+            odd = 1;
+            i += 1;
+        }
+    }
+    odd == 0
+}
+
+// How far two byte strings of one length agree from an index on, by whole blocks of a size. Where a whole block is left, it differs.
+fn ahead(x: &[u8], y: &[u8], from: usize, size: usize) -> usize
+    requires { ⌜ (length (now x) ≡ length (now y)) × (from ≤ length (now x)) × (0 < size) ⌝ }
+    ensures { λ r. ⌜ (r ≤ length (now (x .entry))) × (sameBytes (drop from (now (x .entry))) (drop from (now (y .entry))) ≡ sameBytes (drop r (now (x .entry))) (drop r (now (y .entry)))) × (size ≤ length (now (x .entry)) - r → sameBytes (drop r (now (x .entry))) (drop r (now (y .entry))) ≡ false) ⌝ }
+{
+    let mut i = from;
+    while size <= x.len() - i {
+        let end = i + size;
+        if agree(&x[i..end], &y[i..end]) {
+            i = end;
+        } else {
+            return i;
+        }
+    }
+    i
+}
+
+// Whether two byte strings are equal: by large blocks, then small ones, then what is left.
 fn same(x: &[u8], y: &[u8]) -> bool
     ensures { λ r. ⌜ r ≡ sameBytes (now (x .entry)) (now (y .entry)) ⌝ }
 {
     if x.len() != y.len() {
         return false;
     }
-    let mut i = 0;
-    while i < x.len() {
-        if x[i] == y[i] {
-            i += 1;
-        } else {
-            return false;
-        }
+    let far = ahead(x, y, 0, LARGE);
+    if LARGE <= x.len() - far {
+        return false;
     }
-    true
+    let near = ahead(x, y, far, SMALL);
+    if SMALL <= x.len() - near {
+        return false;
+    }
+    agree(&x[near..], &y[near..])
 }
 
 // Whether a byte string is that of a small value: only the bytes that fit a small atom are those of one.

@@ -1,5 +1,5 @@
 // atom: the bytes of an atom, as a part of the byte store or of a scratch of four bytes. Two calls with the same arguments: the first
-// writes a small atom's value into the scratch and tells the code, the second hands back the part.
+// writes a small atom's value into the scratch and tells the code, or where the bytes are; the second hands back the part.
 use rules::Allocator;
 use rules::Code;
 use rules::Verdict;
@@ -39,7 +39,30 @@ fn part_of(
     rules::Atom::Refused(Code::Unsound, node::NIL)
 }
 
-// Writes a small atom's value into the scratch; else the scratch is left as it was.
+// Writes a small atom's value into the scratch, else leaves it as it was; and tells where the bytes are.
+pub fn filled(
+    a: Allocator,
+    bytes: &[u8],
+    starts: &[u32],
+    ends: &[u32],
+    scratch: &mut [u8],
+    n: u32,
+) -> rules::Atom
+    ensures { λ r. ⌜ atomPaper r ≡ atomRule a (store (now (bytes .entry)) (atomSlots (now (starts .entry)) (now (ends .entry)))) n (length (now (scratch .entry))) ⌝ }
+    ensures { λ _. ⌜ now (scratch .exit) ≡ scratchAfter (atomRule a (store (now (bytes .entry)) (atomSlots (now (starts .entry)) (now (ends .entry)))) n (length (now (scratch .entry)))) (now (scratch .entry)) ⌝ }
+{
+    let part = part_of(a, bytes, starts, ends, n, scratch.len());
+    match part {
+        rules::Atom::Range(start, end) => rules::Atom::Range(start, end),
+        rules::Atom::Value(v) => {
+            node::put_be(scratch, v as u64, 4);
+            rules::Atom::Value(v)
+        }
+        rules::Atom::Refused(code, node) => rules::Atom::Refused(code, node),
+    }
+}
+
+// The same, telling the code alone.
 pub fn fill(
     a: Allocator,
     bytes: &[u8],
@@ -51,13 +74,10 @@ pub fn fill(
     ensures { λ r. ⌜ verdictPaper r ≡ saysOf (λ x. done) (atomRule a (store (now (bytes .entry)) (atomSlots (now (starts .entry)) (now (ends .entry)))) n (length (now (scratch .entry)))) ⌝ }
     ensures { λ _. ⌜ now (scratch .exit) ≡ scratchAfter (atomRule a (store (now (bytes .entry)) (atomSlots (now (starts .entry)) (now (ends .entry)))) n (length (now (scratch .entry)))) (now (scratch .entry)) ⌝ }
 {
-    let part = part_of(a, bytes, starts, ends, n, scratch.len());
+    let part = filled(a, bytes, starts, ends, scratch, n);
     match part {
         rules::Atom::Range(_, _) => Verdict::Done,
-        rules::Atom::Value(v) => {
-            node::put_be(scratch, v as u64, 4);
-            Verdict::Done
-        }
+        rules::Atom::Value(_) => Verdict::Done,
         rules::Atom::Refused(code, node) => Verdict::Refused(code, node),
     }
 }

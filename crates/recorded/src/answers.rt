@@ -1,15 +1,12 @@
 // What a call answered, as the data has it: code, node, six values.
 use super::data;
-use clvm_allocator::answers::CChanged;
+use clvm_allocator::answers::CAnswer;
 use clvm_allocator::answers::CChildren;
-use clvm_allocator::answers::CMade;
-use clvm_allocator::answers::CMarked;
 use clvm_allocator::answers::CNumber;
 use clvm_allocator::answers::COption;
 use clvm_allocator::answers::CPart;
 use clvm_allocator::answers::CRestored;
 use clvm_allocator::answers::CStatus;
-use clvm_allocator::answers::CTaken;
 use clvm_allocator::answers::CVisited;
 use rules::Allocator;
 use rules::Counts;
@@ -118,69 +115,26 @@ pub fn of_status(r: CStatus) -> Seen {
     )
 }
 
-pub fn of_taken(r: CTaken) -> Seen {
-    let cp = r.checkpoint;
-    let used = cp.used;
-    let ghosts = cp.ghosts;
+// A checkpoint's numbers; a transparent one has three.
+pub fn of_row(r: CAnswer, k: [usize; 6]) -> Seen {
     Seen {
         code: r.code,
         node: r.node,
-        a: data::long(used.atoms),
-        b: data::long(used.pairs),
-        c: data::long(used.bytes),
-        d: data::long(ghosts.atoms),
-        e: data::long(ghosts.pairs),
-        f: data::long(ghosts.bytes),
+        a: data::long(k[0]),
+        b: data::long(k[1]),
+        c: data::long(k[2]),
+        d: data::long(k[3]),
+        e: data::long(k[4]),
+        f: data::long(k[5]),
     }
 }
 
-pub fn of_marked(r: CMarked) -> Seen {
-    let used = r.checkpoint;
-    shown(
-        r.code,
-        r.node,
-        data::long(used.atoms),
-        data::long(used.pairs),
-        data::long(used.bytes),
-        0,
-    )
+pub fn of_answer(r: CAnswer) -> Seen {
+    shown(r.code, r.node, 0, 0, 0, 0)
 }
 
-// A call that only reads leaves the record as it is.
-pub fn read(s: Seen, a: Allocator) -> Done {
-    Done { seen: s, state: a }
-}
-
-pub fn of_made(r: CMade) -> Done {
-    let s = r.state;
-    Done {
-        seen: shown(r.code, r.node, 0, 0, 0, 0),
-        state: s,
-    }
-}
-
-pub fn of_changed(r: CChanged) -> Done {
-    let s = r.state;
-    Done {
-        seen: shown(r.code, r.node, 0, 0, 0, 0),
-        state: s,
-    }
-}
-
-pub fn of_restored(r: CRestored) -> Done {
-    let s = r.state;
-    Done {
-        seen: shown(r.code, r.node, data::word(r.outcome), 0, 0, 0),
-        state: s,
-    }
-}
-
-// A limit that is refused leaves the allocator that was there.
-pub fn of_fresh(r: CChanged, a: Allocator) -> Done {
-    if r.code == 0 {
-        return of_changed(r);
-    }
-    read(shown(r.code, r.node, 0, 0, 0, 0), a)
+pub fn of_restored(r: CRestored) -> Seen {
+    shown(r.code, r.node, data::word(r.outcome), 0, 0, 0)
 }
 
 fn same_counts(x: Counts, a: u64, b: u64, c: u64) -> bool {

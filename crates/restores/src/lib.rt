@@ -121,7 +121,7 @@ fn share(
     }
 }
 
-// Saves the bytes, restores, and makes an atom of them again.
+// Saves the bytes, restores, and makes an atom of them again: new_atom's tests were passed before, and are not made twice.
 fn copy_node(
     k: Counts,
     a: Allocator,
@@ -138,7 +138,7 @@ fn copy_node(
     let mut saved = [0u8; 48];
     bytes::copy(&bytes[start..end], &mut saved);
     let less = record::less_ghosts(len, record::cut(k, a));
-    let made = atom::new_atom(less, bytes, starts, ends, &saved[..len]);
+    let made = atom::small_or(less, bytes, starts, ends, &saved[..len], len);
     settle(a, made)
 }
 

@@ -4,31 +4,8 @@ pub const NIL: u32 = 134217728;
 pub const TOP: usize = 4294967295;
 pub const MOST: usize = 62500000;
 
-/// How many atoms, pairs and bytes; also a transparent checkpoint.
-#[repr(C)]
-#[derive(Clone, Copy, Debug, Default, PartialEq, Eq)]
-pub struct Counts {
-    pub atoms: usize,
-    pub pairs: usize,
-    pub bytes: usize,
-}
-
-/// The seven numbers.
-#[repr(C)]
-#[derive(Clone, Copy, Debug, Default, PartialEq, Eq)]
-pub struct Record {
-    pub used: Counts,
-    pub ghosts: Counts,
-    pub limit: usize,
-}
-
-/// A plain checkpoint.
-#[repr(C)]
-#[derive(Clone, Copy, Debug, Default, PartialEq, Eq)]
-pub struct Checkpoint {
-    pub used: Counts,
-    pub ghosts: Counts,
-}
+/// The counts (also a transparent checkpoint), the seven numbers and a plain checkpoint, as our library has them.
+pub use clvm_allocator::ffi::{Counts, Plain as Checkpoint, Record};
 
 /// All that an allocator holds: the used counts are the lengths.
 #[derive(Clone, Debug, Default, PartialEq, Eq)]

@@ -1,6 +1,7 @@
--- `restores::copy_node` meets its contract: the saved bytes go through new_atom, which accepts them. Assumes nothing.
-use Rattle.restores.proofs.Saved.{saved-bytes, settled}
-use Rattle.rules.specs.Creates.{newAtom}
+-- `restores::copy_node` meets its contract: new_atom would accept the saved bytes, so that its tests are passed. Assumes nothing.
+use Rattle.restores.proofs.Saved.{saved-bytes, settled, passed-on}
+use Rattle.rules.specs.Small.{fits}
+use Rattle.rules.specs.Creates.{atomTests, atomPut, smallOr}
 use Rattle.rules.specs.State.{store, atomSlots, cut, lessGhosts}
 use lib.Seq.{slice, length-slice}
 use lib.ListN.{length, take}
@@ -13,7 +14,6 @@ use Rattle.restores.proofs.copy_node.Tie as tie
 use Rattle.restores.proofs.copy_node.Reads as reads
 use Rattle.restores.proofs.copy_node.Lts as lts
 use Rattle.bytes.proofs.copy.Reads as copy-reads
-use Rattle.creates.proofs.atom.new_atom.Reads as new-atom-reads
 use Rattle.restores.proofs.settle.Reads as settle-reads
 use Rattle.state.proofs.record.cut.Reads as cut-reads
 use Rattle.state.proofs.record.less_ghosts.Reads as less-ghosts-reads
@@ -52,34 +52,30 @@ less-ghosts-requires c κs = simp (c .cut .ensures) (omega (arith, c .before .be
 array-share-prefix-saved : tie.Need-array-share-prefix-saved
 array-share-prefix-saved c = search needs
 
-slice-aggregate-new-atom : tie.Need-slice-aggregate-new-atom
-slice-aggregate-new-atom c =
+slice-aggregate-small-or : tie.Need-slice-aggregate-small-or
+slice-aggregate-small-or c =
     let s = c .before .before .before .before .before .before .before .before .before .before .before .before .before .before .args in
     let p = c .before .before .before .before .before .before .before .before .before .before .before .before .before .before .pre in
     sym (ap length (saved (c .before .before .before .before .before .before .before)) ∙ length-slice (s .start) (s .end) (s .bytes .now) (omega (arith, p .inside, p .fit)))
 
-new-atom-requires : tie.Need-new-atom-requires
-new-atom-requires c κs = search needs
-
-settle-requires : tie.Need-settle-requires
-settle-requires c κs = search needs
-
-same-length : tie.Need-same-length
-same-length c = search needs
-
-same-length-2 : tie.Need-same-length-2
-same-length-2 c = search needs
-
-same-length-3 : tie.Need-same-length-3
-same-length-3 c = search needs
+small-or-requires : tie.Need-small-or-requires
+small-or-requires c κs =
+    let p = c .before .before .before .before .before .before .before .before .before .before .before .before .before .before .pre in
+    simp (c .before .before .before .before .less-ghosts .ensures, c .before .before .before .before .before .cut .ensures) (omega (arith, p), omega (arith, p))
 
 returns : tie.Need-returns
 returns c =
     let s = c .before .before .before .before .before .before .before .before .before .before .before .before .before .before .before .before .before .before .before .before .before .before .args in
+    let p = c .before .before .before .before .before .before .before .before .before .before .before .before .before .before .before .before .before .before .before .before .before .before .pre in
     let st = store (s .bytes .now) (atomSlots (s .starts .now) (s .ends .now)) in
+    let v = slice (s .start) (s .end) (s .bytes .now) in
     let less = c .before .before .before .before .before .before .before .before .before .before .before .before .less-ghosts .ensures ∙ ap (lessGhosts (s .end - s .start)) (c .before .before .before .before .before .before .before .before .before .before .before .before .before .cut .ensures) in
-    let e = c .before .before .before .before .before .before .before .new-atom .ensures ∙ ap (λ b. newAtom b (take (s .end - s .start) (c .before .before .before .before .before .before .before .before .before .before .before .before .before .before .before .copy .last .1 .0)) st) less ∙ ap (λ v. newAtom (lessGhosts (s .end - s .start) (cut (s .k) (s .a))) v st) (saved (c .before .before .before .before .before .before .before .before .before .before .before .before .before .before .before)) in
-    settled (s .a) st _ (c .before .before .before .before .before .before .before .new-atom .result) (c .settle .result) _ _ e (c .before .before .before .before .before .before .before .before .before .before .before .before .before .before .before .before .before .before .before .before .before .before .pre .accepts) (c .settle .ensures .0) (c .settle .ensures .1)
+    let cut-less = lessGhosts (s .end - s .start) (cut (s .k) (s .a)) in
+    let len : length v ≡ s .end - s .start = length-slice (s .start) (s .end) (s .bytes .now) (omega (arith, p .inside, p .fit)) in
+    let accepts = p .accepts in
+    let put = passed-on (atomTests cut-less (length v) st) cut-less st (λ d. atomPut (fits v) cut-less v st) _ accepts in
+    let e = c .before .before .before .before .before .before .before .small-or .ensures ∙ ap (λ b. smallOr (fits (take (s .end - s .start) (c .before .before .before .before .before .before .before .before .before .before .before .before .before .before .before .copy .last .1 .0))) (s .end - s .start) b (take (s .end - s .start) (c .before .before .before .before .before .before .before .before .before .before .before .before .before .before .before .copy .last .1 .0)) st) less ∙ ap (λ w. smallOr (fits w) (s .end - s .start) cut-less w st) (saved (c .before .before .before .before .before .before .before .before .before .before .before .before .before .before .before)) ∙ ap (λ n. smallOr (fits v) n cut-less v st) (sym len) ∙ sym put in
+    settled (s .a) st _ (c .before .before .before .before .before .before .before .small-or .result) (c .settle .result) _ _ e accepts (c .settle .ensures .0) (c .settle .ensures .1)
 
 pub copy-node-spec : {M : Type 1} → statement M
 copy-node-spec =
@@ -94,10 +90,10 @@ copy-node-spec =
     cut-requires
     less-ghosts-requires
     array-share-prefix-saved
-    slice-aggregate-new-atom
-    new-atom-requires
-    settle-requires
-    same-length
-    same-length-2
-    same-length-3
+    slice-aggregate-small-or
+    small-or-requires
+    (λ c κs. search needs)
+    (λ c. search needs)
+    (λ c. search needs)
+    (λ c. search needs)
     returns)

@@ -1,19 +1,19 @@
 -- `clvm_allocator::creation::clvm_new_concat` meets its contract: what the call beneath promises, as numbers.
-use mathlib.Core.Path.{ap, _∙_}
-use Rattle.clvm_allocator.specs.Answers.{madeC}
+use Rattle.clvm_allocator.specs.Answers.{answerC}
+use Rattle.clvm_allocator.proofs.Crossed.{crossed-by}
 use borrow.Author.Needs.{needs}
 use Rattle.clvm_allocator.proofs.creation.clvm_new_concat.Statement.{statement}
 use Rattle.clvm_allocator.proofs.creation.clvm_new_concat.Tie as tie
 
 returns : tie.Need-returns
-returns c =
-    let told = c .before .before .before .before .before .before .before .new-concat .ensures in
-    (c .of-made .ensures ∙ ap madeC told, ap (λ o. o .lent) told)
+returns c = crossed-by answerC _ _ (c .of-answer .ensures) (c .before .of-record .ensures) (rw (c .before .before .before .before .before .before .before .before .before .before .before .before .«record» .ensures) at (c .before .before .before .before .before .before .before .before .new-concat .ensures))
 
 pub clvm-new-concat-spec : {M : Type 1} → statement M
 clvm-new-concat-spec =
     tie.close
     (tie.spec
+    (λ c κs. search needs)
+    (λ c κs. search needs)
     (λ c κs. search needs)
     (λ c κs. search needs)
     (λ c. search needs)

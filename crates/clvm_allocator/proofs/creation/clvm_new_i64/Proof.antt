@@ -1,23 +1,25 @@
--- `clvm_allocator::creation::clvm_new_i64` meets its contract: what the call beneath promises, as numbers; a signed number is that of its bits.
-use mathlib.Core.Path.{ap, _∙_}
+-- `clvm_allocator::creation::clvm_new_i64` meets its contract: clvm_new_atom on the bytes that the writer wrote; a signed number is that of its bits.
 use mir.Syntax.{w64}
 use mir.ValLaws.{toZ-ofZ}
-use Rattle.clvm_allocator.specs.Answers.{madeC}
+use Rattle.creates.proofs.Numbers.{written-part, written-length}
 use borrow.Author.Needs.{needs}
 use Rattle.clvm_allocator.proofs.creation.clvm_new_i64.Statement.{statement}
 use Rattle.clvm_allocator.proofs.creation.clvm_new_i64.Tie as tie
 
+slice-aggregate-clvm-new-atom : tie.Need-slice-aggregate-clvm-new-atom
+slice-aggregate-clvm-new-atom c = written-length _ _ _ _ (c .before .before .before .before .before .before .write-i64 .ensures)
+
 returns : tie.Need-returns
-returns c =
-    let same = toZ-ofZ w64 (c .before .before .before .before .before .before .before .before .before .before .before .before .before .before .args .x) (c .before .before .before .before .before .before .before .before .before .before .before .before .before .before .fits .x) in
-    let told = rw same at (c .before .before .before .before .before .before .before .new-i64 .ensures) in
-    (c .of-made .ensures ∙ ap madeC told, ap (λ o. o .lent) told)
+returns c = simp (toZ-ofZ w64 (c .before .before .before .before .before .before .before .before .before .before .before .before .before .before .before .before .before .before .args .x) (c .before .before .before .before .before .before .before .before .before .before .before .before .before .before .before .before .before .before .fits .x), c .before .before .before .before .before .before .clvm-new-atom .ensures, written-part _ _ _ _ (c .before .before .before .before .before .before .before .before .before .before .before .before .before .write-i64 .ensures))
 
 pub clvm-new-i64-spec : {M : Type 1} → statement M
 clvm-new-i64-spec =
     tie.close
     (tie.spec
+    (λ c. search needs)
     (λ c κs. search needs)
+    (λ c. search needs)
+    slice-aggregate-clvm-new-atom
     (λ c κs. search needs)
     (λ c. search needs)
     (λ c. search needs)

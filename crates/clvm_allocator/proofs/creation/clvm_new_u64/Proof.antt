@@ -1,20 +1,23 @@
--- `clvm_allocator::creation::clvm_new_u64` meets its contract: what the call beneath promises, as numbers.
-use mathlib.Core.Path.{ap, _∙_}
-use Rattle.clvm_allocator.specs.Answers.{madeC}
+-- `clvm_allocator::creation::clvm_new_u64` meets its contract: clvm_new_atom on the bytes that the writer wrote.
+use Rattle.creates.proofs.Numbers.{written-part, written-length}
 use borrow.Author.Needs.{needs}
 use Rattle.clvm_allocator.proofs.creation.clvm_new_u64.Statement.{statement}
 use Rattle.clvm_allocator.proofs.creation.clvm_new_u64.Tie as tie
 
+slice-aggregate-clvm-new-atom : tie.Need-slice-aggregate-clvm-new-atom
+slice-aggregate-clvm-new-atom c = written-length _ _ _ _ (c .before .before .before .before .before .before .write-u64 .ensures)
+
 returns : tie.Need-returns
-returns c =
-    let told = c .before .before .before .before .before .before .before .new-u64 .ensures in
-    (c .of-made .ensures ∙ ap madeC told, ap (λ o. o .lent) told)
+returns c = simp (c .before .before .before .before .before .before .clvm-new-atom .ensures, written-part _ _ _ _ (c .before .before .before .before .before .before .before .before .before .before .before .before .before .write-u64 .ensures))
 
 pub clvm-new-u64-spec : {M : Type 1} → statement M
 clvm-new-u64-spec =
     tie.close
     (tie.spec
+    (λ c. search needs)
     (λ c κs. search needs)
+    (λ c. search needs)
+    slice-aggregate-clvm-new-atom
     (λ c κs. search needs)
     (λ c. search needs)
     (λ c. search needs)

@@ -7,7 +7,13 @@ use Rattle.clvm_allocator.proofs.lookup.clvm_atom_eq.Statement.{stateme
 use Rattle.clvm_allocator.proofs.lookup.clvm_atom_eq.Tie as tie
 
 returns : tie.Need-returns
-returns c = c .of-truth .ensures ∙ ap (λ x. numberC (saysOf bit x)) (c .before .atom-eq .ensures)
+returns c = c .of-truth .ensures ∙ ap (λ b. numberC (saysOf bit b)) (rw (c .before .before .«record» .ensures) at (c .before .atom-eq .ensures))
 
 pub clvm-atom-eq-spec : {M : Type 1} → statement M
-clvm-atom-eq-spec = tie.close (tie.spec (λ c κs. search needs) (λ c κs. search needs) returns)
+clvm-atom-eq-spec =
+    tie.close
+    (tie.spec
+    (λ c κs. search needs)
+    (λ c κs. search needs)
+    (λ c κs. search needs)
+    returns)

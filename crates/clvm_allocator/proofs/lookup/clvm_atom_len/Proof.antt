@@ -6,7 +6,13 @@ use Rattle.clvm_allocator.proofs.lookup.clvm_atom_len.Statement.{statem
 use Rattle.clvm_allocator.proofs.lookup.clvm_atom_len.Tie as tie
 
 returns : tie.Need-returns
-returns c = c .of-number .ensures ∙ ap numberC (c .before .atom-len .ensures)
+returns c = c .of-number .ensures ∙ ap numberC (rw (c .before .before .«record» .ensures) at (c .before .atom-len .ensures))
 
 pub clvm-atom-len-spec : {M : Type 1} → statement M
-clvm-atom-len-spec = tie.close (tie.spec (λ c κs. search needs) (λ c κs. search needs) returns)
+clvm-atom-len-spec =
+    tie.close
+    (tie.spec
+    (λ c κs. search needs)
+    (λ c κs. search needs)
+    (λ c κs. search needs)
+    returns)

@@ -6,7 +6,14 @@ use Rattle.clvm_allocator.proofs.lookup.clvm_checkpoint_node_status.Sta
 use Rattle.clvm_allocator.proofs.lookup.clvm_checkpoint_node_status.Tie as tie
 
 returns : tie.Need-returns
-returns c = c .of-status .ensures ∙ ap statusC (c .before .checkpoint-node-status .ensures)
+returns c = c .of-status .ensures ∙ ap statusC (rw (c .before .before .before .«record» .ensures, c .before .before .counts .ensures) at (c .before .checkpoint-node-status .ensures))
 
 pub clvm-checkpoint-node-status-spec : {M : Type 1} → statement M
-clvm-checkpoint-node-status-spec = tie.close (tie.spec (λ c κs. search needs) (λ c κs. search needs) returns)
+clvm-checkpoint-node-status-spec =
+    tie.close
+    (tie.spec
+    (λ c κs. search needs)
+    (λ c κs. search needs)
+    (λ c κs. search needs)
+    (λ c κs. search needs)
+    returns)

@@ -6,7 +6,13 @@ use Rattle.clvm_allocator.proofs.lookup.clvm_node.Statement.{statement}
 use Rattle.clvm_allocator.proofs.lookup.clvm_node.Tie as tie
 
 returns : tie.Need-returns
-returns c = c .of-visitor .ensures ∙ ap visitedC (c .before .node .ensures)
+returns c = c .of-visitor .ensures ∙ ap visitedC (rw (c .before .before .«record» .ensures) at (c .before .node .ensures))
 
 pub clvm-node-spec : {M : Type 1} → statement M
-clvm-node-spec = tie.close (tie.spec (λ c κs. search needs) (λ c κs. search needs) returns)
+clvm-node-spec =
+    tie.close
+    (tie.spec
+    (λ c κs. search needs)
+    (λ c κs. search needs)
+    (λ c κs. search needs)
+    returns)

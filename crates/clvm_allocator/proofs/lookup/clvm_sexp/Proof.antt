@@ -6,7 +6,13 @@ use Rattle.clvm_allocator.proofs.lookup.clvm_sexp.Statement.{statement}
 use Rattle.clvm_allocator.proofs.lookup.clvm_sexp.Tie as tie
 
 returns : tie.Need-returns
-returns c = c .of-sexp .ensures ∙ ap childrenC (c .before .sexp .ensures)
+returns c = c .of-sexp .ensures ∙ ap childrenC (rw (c .before .before .«record» .ensures) at (c .before .sexp .ensures))
 
 pub clvm-sexp-spec : {M : Type 1} → statement M
-clvm-sexp-spec = tie.close (tie.spec (λ c κs. search needs) (λ c κs. search needs) returns)
+clvm-sexp-spec =
+    tie.close
+    (tie.spec
+    (λ c κs. search needs)
+    (λ c κs. search needs)
+    (λ c κs. search needs)
+    returns)

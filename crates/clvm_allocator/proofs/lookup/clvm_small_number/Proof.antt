@@ -6,7 +6,13 @@ use Rattle.clvm_allocator.proofs.lookup.clvm_small_number.Statement.{st
 use Rattle.clvm_allocator.proofs.lookup.clvm_small_number.Tie as tie
 
 returns : tie.Need-returns
-returns c = c .of-small .ensures ∙ ap optionC (c .before .small-number .ensures)
+returns c = c .of-small .ensures ∙ ap optionC (rw (c .before .before .«record» .ensures) at (c .before .small-number .ensures))
 
 pub clvm-small-number-spec : {M : Type 1} → statement M
-clvm-small-number-spec = tie.close (tie.spec (λ c κs. search needs) (λ c κs. search needs) returns)
+clvm-small-number-spec =
+    tie.close
+    (tie.spec
+    (λ c κs. search needs)
+    (λ c κs. search needs)
+    (λ c κs. search needs)
+    returns)

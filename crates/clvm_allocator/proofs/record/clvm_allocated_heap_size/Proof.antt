@@ -6,7 +6,13 @@ use Rattle.clvm_allocator.proofs.record.clvm_allocated_heap_size.Statem
 use Rattle.clvm_allocator.proofs.record.clvm_allocated_heap_size.Tie as tie
 
 returns : tie.Need-returns
-returns c = c .of-number .ensures ∙ ap numberC (c .before .allocated-heap-size .ensures)
+returns c = c .of-number .ensures ∙ ap numberC (rw (c .before .before .«record» .ensures) at (c .before .allocated-heap-size .ensures))
 
 pub clvm-allocated-heap-size-spec : {M : Type 1} → statement M
-clvm-allocated-heap-size-spec = tie.close (tie.spec (λ c κs. search needs) (λ c κs. search needs) returns)
+clvm-allocated-heap-size-spec =
+    tie.close
+    (tie.spec
+    (λ c κs. search needs)
+    (λ c κs. search needs)
+    (λ c κs. search needs)
+    returns)

@@ -6,7 +6,13 @@ use Rattle.clvm_allocator.proofs.record.clvm_allocated_pair_count.State
 use Rattle.clvm_allocator.proofs.record.clvm_allocated_pair_count.Tie as tie
 
 returns : tie.Need-returns
-returns c = c .of-number .ensures ∙ ap numberC (c .before .allocated-pair-count .ensures)
+returns c = c .of-number .ensures ∙ ap numberC (rw (c .before .before .«record» .ensures) at (c .before .allocated-pair-count .ensures))
 
 pub clvm-allocated-pair-count-spec : {M : Type 1} → statement M
-clvm-allocated-pair-count-spec = tie.close (tie.spec (λ c κs. search needs) (λ c κs. search needs) returns)
+clvm-allocated-pair-count-spec =
+    tie.close
+    (tie.spec
+    (λ c κs. search needs)
+    (λ c κs. search needs)
+    (λ c κs. search needs)
+    returns)

@@ -6,7 +6,13 @@ use Rattle.clvm_allocator.proofs.record.clvm_atom_count.Statement.{stat
 use Rattle.clvm_allocator.proofs.record.clvm_atom_count.Tie as tie
 
 returns : tie.Need-returns
-returns c = c .of-number .ensures ∙ ap numberC (c .before .atom-count .ensures)
+returns c = c .of-number .ensures ∙ ap numberC (rw (c .before .before .«record» .ensures) at (c .before .atom-count .ensures))
 
 pub clvm-atom-count-spec : {M : Type 1} → statement M
-clvm-atom-count-spec = tie.close (tie.spec (λ c κs. search needs) (λ c κs. search needs) returns)
+clvm-atom-count-spec =
+    tie.close
+    (tie.spec
+    (λ c κs. search needs)
+    (λ c κs. search needs)
+    (λ c κs. search needs)
+    returns)

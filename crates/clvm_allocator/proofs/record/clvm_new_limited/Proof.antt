@@ -1,12 +1,18 @@
 -- `clvm_allocator::record::clvm_new_limited` meets its contract: what the call beneath promises, as numbers.
-use mathlib.Core.Path.{ap, _∙_}
-use Rattle.clvm_allocator.specs.Answers.{changedC}
+use Rattle.clvm_allocator.specs.Answers.{doneC}
+use Rattle.clvm_allocator.proofs.Crossed.{crossed-by}
 use borrow.Author.Needs.{needs}
 use Rattle.clvm_allocator.proofs.record.clvm_new_limited.Statement.{statement}
 use Rattle.clvm_allocator.proofs.record.clvm_new_limited.Tie as tie
 
 returns : tie.Need-returns
-returns c = c .of-changed .ensures ∙ ap changedC (c .before .new-limited .ensures)
+returns c = crossed-by doneC _ _ (c .of-verdict .ensures) (c .before .of-record .ensures) (c .before .before .new-limited .ensures)
 
 pub clvm-new-limited-spec : {M : Type 1} → statement M
-clvm-new-limited-spec = tie.close (tie.spec (λ c κs. search needs) (λ c κs. search needs) returns)
+clvm-new-limited-spec =
+    tie.close
+    (tie.spec
+    (λ c κs. search needs)
+    (λ c κs. search needs)
+    (λ c κs. search needs)
+    returns)

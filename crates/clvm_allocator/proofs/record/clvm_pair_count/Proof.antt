@@ -6,7 +6,13 @@ use Rattle.clvm_allocator.proofs.record.clvm_pair_count.Statement.{stat
 use Rattle.clvm_allocator.proofs.record.clvm_pair_count.Tie as tie
 
 returns : tie.Need-returns
-returns c = c .of-number .ensures ∙ ap numberC (c .before .pair-count .ensures)
+returns c = c .of-number .ensures ∙ ap numberC (rw (c .before .before .«record» .ensures) at (c .before .pair-count .ensures))
 
 pub clvm-pair-count-spec : {M : Type 1} → statement M
-clvm-pair-count-spec = tie.close (tie.spec (λ c κs. search needs) (λ c κs. search needs) returns)
+clvm-pair-count-spec =
+    tie.close
+    (tie.spec
+    (λ c κs. search needs)
+    (λ c κs. search needs)
+    (λ c κs. search needs)
+    returns)

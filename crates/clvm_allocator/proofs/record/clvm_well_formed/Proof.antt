@@ -1,15 +1,21 @@
 -- `clvm_allocator::record::clvm_well_formed` meets its contract: each branch is told the answer beneath.
 use mathlib.Core.Path.{sym, ap, _∙_}
-use borrow.Author.Needs.{needs}
 use Rattle.clvm_allocator.specs.Answers.{bit}
+use borrow.Author.Needs.{needs}
 use Rattle.clvm_allocator.proofs.record.clvm_well_formed.Statement.{statement}
 use Rattle.clvm_allocator.proofs.record.clvm_well_formed.Tie as tie
 
 returns : tie.Need-returns
-returns c = ap bit (sym (c .if1 .taken) ∙ c .before .well-formed .ensures)
+returns c = ap bit (sym (c .if1 .taken) ∙ rw (c .before .before .«record» .ensures) at (c .before .well-formed .ensures))
 
 returns-2 : tie.Need-returns-2
-returns-2 c = ap bit (sym (c .if1 .left) ∙ c .before .well-formed .ensures)
+returns-2 c = ap bit (sym (c .if1 .left) ∙ rw (c .before .before .«record» .ensures) at (c .before .well-formed .ensures))
 
 pub clvm-well-formed-spec : {M : Type 1} → statement M
-clvm-well-formed-spec = tie.close (tie.spec (λ c κs. search needs) returns returns-2)
+clvm-well-formed-spec =
+    tie.close
+    (tie.spec
+    (λ c κs. search needs)
+    (λ c κs. search needs)
+    returns
+    returns-2)

@@ -1,33 +1,24 @@
 -- `reads::part::fill` meets its contract. Assumes nothing.
-use mathlib.Core.Path.{_≡_, sym, ap, _∙_}
-use native.Mathlib.Omega.{arith}
+use mathlib.Core.Path.{sym, ap, _∙_}
 use borrow.Author.Needs.{needs}
-use lib.ListN.{length}
 use Rattle.rules.specs.Paper.{atomPaper}
-use Rattle.reads.proofs.Laws.{part-says, whole-scratch}
 use Rattle.reads.proofs.part.fill.Statement.{statement}
 use Rattle.reads.proofs.part.fill.Tie as tie
 
-four : (c : tie.After-known-told) → length (c .before .before .before .before .before .before .before .before .args .scratch .now) ≡ 4
-four c = part-says _ _ _ _ _ (sym (c .before .before .before .part-of .ensures) ∙ ap atomPaper (c .before .part .given .1)) .1
-
-put-be-requires : tie.Need-put-be-requires
-put-be-requires c κs = omega (arith, four (c .before))
-
 returns : tie.Need-returns
 returns c =
-    let e = sym (c .before .before .part-of .ensures) ∙ ap atomPaper (c .enum-told .given .1) in
-    (simp e, simp e)
+    let e = sym (c .before .before .before .before .filled .ensures .0) ∙ ap atomPaper (c .enum-told .given .1) in
+    (simp e, c .before .before .before .before .filled .ensures .1)
 
 returns-2 : tie.Need-returns-2
 returns-2 c =
-    let e = sym (c .before .before .before .before .before .before .before .part-of .ensures) ∙ ap atomPaper (c .before .before .before .before .before .part .given .1) in
-    (simp e, c .before .before .put-be .ensures ∙ whole-scratch _ (c .before .before .before .before .before .before .before .before .before .before .before .before .args .scratch .now) (four (c .before .before .before .before)) ∙ simp e)
+    let e = sym (c .before .before .before .before .filled .ensures .0) ∙ ap atomPaper (c .enum-told2 .given .1) in
+    (simp e, c .before .before .before .before .filled .ensures .1)
 
 returns-3 : tie.Need-returns-3
 returns-3 c =
-    let e = sym (c .before .before .before .part-of .ensures) ∙ ap atomPaper (c .before .part2 .given .1) in
-    (simp e, simp e)
+    let e = sym (c .before .before .before .before .before .filled .ensures .0) ∙ ap atomPaper (c .before .part .given .1) in
+    (simp e, c .before .before .before .before .before .filled .ensures .1)
 
 pub fill-spec : {M : Type 1} → statement M
 fill-spec =
@@ -37,9 +28,9 @@ fill-spec =
     (λ c. search needs)
     (λ c. search needs)
     (λ c. search needs)
-    put-be-requires
     (λ c. search needs)
     returns
     (λ c. search needs)
     returns-2
+    (λ c. search needs)
     returns-3)

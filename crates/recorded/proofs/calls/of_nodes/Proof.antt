@@ -8,13 +8,13 @@ use Rattle.recorded.proofs.calls.of_nodes.Statement.{statement}
 use Rattle.recorded.proofs.calls.of_nodes.Tie as tie
 
 slice-aggregate-clvm-new-concat : tie.Need-slice-aggregate-clvm-new-concat
-slice-aggregate-clvm-new-concat c = sym (length-take-le (c .before .before .before .before .before .before .before .before .before .args .n) (now (c .before .before .before .before .before .before .before .before .before .args .nodes)) (omega arith))
+slice-aggregate-clvm-new-concat c = sym (length-take-le (c .before .before .before .before .before .before .before .before .before .before .args .n) (now (c .before .before .before .before .before .before .before .before .before .before .args .nodes)) (omega arith))
 
 clvm-new-concat-requires : tie.Need-clvm-new-concat-requires
 clvm-new-concat-requires c κs = search needs
 
-of-made-requires : tie.Need-of-made-requires
-of-made-requires c κs = search needs
+of-answer-requires : tie.Need-of-answer-requires
+of-answer-requires c κs = search needs
 
 same-length : tie.Need-same-length
 same-length c = search needs
@@ -31,8 +31,8 @@ returns c = search needs
 clvm-new-concat-requires-2 : tie.Need-clvm-new-concat-requires-2
 clvm-new-concat-requires-2 c κs = search needs
 
-of-made-requires-2 : tie.Need-of-made-requires-2
-of-made-requires-2 c κs = search needs
+of-answer-requires-2 : tie.Need-of-answer-requires-2
+of-answer-requires-2 c κs = search needs
 
 same-length-4 : tie.Need-same-length-4
 same-length-4 c = search needs
@@ -52,13 +52,13 @@ of-nodes-spec =
     (tie.spec
     slice-aggregate-clvm-new-concat
     clvm-new-concat-requires
-    of-made-requires
+    of-answer-requires
     same-length
     same-length-2
     same-length-3
     returns
     clvm-new-concat-requires-2
-    of-made-requires-2
+    of-answer-requires-2
     same-length-4
     same-length-5
     same-length-6

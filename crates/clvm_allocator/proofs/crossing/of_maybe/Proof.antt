@@ -1,0 +1,33 @@
+-- `clvm_allocator::crossing::of_maybe` meets its contract: each arm is told its case, and the definition computes on it.
+use borrow.Author.Needs.{needs}
+use Rattle.clvm_allocator.proofs.crossing.of_maybe.Statement.{statement}
+use Rattle.clvm_allocator.proofs.crossing.of_maybe.Tie as tie
+
+returns : tie.Need-returns
+returns c = simp (c .outcome .ensures, c .before .enum-told .given .1)
+
+returns-2 : tie.Need-returns-2
+returns-2 c = simp (c .outcome2 .ensures, c .before .before .found .given .1)
+
+returns-3 : tie.Need-returns-3
+returns-3 c = simp (c .outcome3 .ensures, c .before .enum-told2 .given .1)
+
+returns-4 : tie.Need-returns-4
+returns-4 c = simp (c .number-of .ensures, c .before .before .found2 .given .1)
+
+pub of-maybe-spec : {M : Type 1} → statement M
+of-maybe-spec =
+    tie.close
+    (tie.spec
+    (λ c. search needs)
+    (λ c κs. search needs)
+    (λ c. search needs)
+    (λ c κs. search needs)
+    (λ c. search needs)
+    (λ c κs. search needs)
+    (λ c. search needs)
+    (λ c κs. search needs)
+    returns
+    returns-2
+    returns-3
+    returns-4)

@@ -1,0 +1,21 @@
+-- `clvm_allocator::crossing::of_number` meets its contract: each arm is told its case, and the definition computes on it.
+use borrow.Author.Needs.{needs}
+use Rattle.clvm_allocator.proofs.crossing.of_number.Statement.{statement}
+use Rattle.clvm_allocator.proofs.crossing.of_number.Tie as tie
+
+returns : tie.Need-returns
+returns c = simp (c .accepted .ensures, c .before .before .found .given .1)
+
+returns-2 : tie.Need-returns-2
+returns-2 c = simp (c .refused .ensures, c .before .before .found2 .given .1)
+
+pub of-number-spec : {M : Type 1} → statement M
+of-number-spec =
+    tie.close
+    (tie.spec
+    (λ c. search needs)
+    (λ c κs. search needs)
+    (λ c. search needs)
+    (λ c κs. search needs)
+    returns
+    returns-2)

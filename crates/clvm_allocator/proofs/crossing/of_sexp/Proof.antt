@@ -1,0 +1,25 @@
+-- `clvm_allocator::crossing::of_sexp` meets its contract: each arm is told its case, and the definition computes on it.
+use borrow.Author.Needs.{needs}
+use Rattle.clvm_allocator.proofs.crossing.of_sexp.Statement.{statement}
+use Rattle.clvm_allocator.proofs.crossing.of_sexp.Tie as tie
+
+returns : tie.Need-returns
+returns c = simp (c .before .found .given .1)
+
+returns-2 : tie.Need-returns-2
+returns-2 c = simp (c .enum-told .given .1)
+
+returns-3 : tie.Need-returns-3
+returns-3 c = simp (c .number-of .ensures, c .before .before .found2 .given .1)
+
+pub of-sexp-spec : {M : Type 1} → statement M
+of-sexp-spec =
+    tie.close
+    (tie.spec
+    (λ c. search needs)
+    (λ c. search needs)
+    (λ c. search needs)
+    (λ c κs. search needs)
+    returns
+    returns-2
+    returns-3)
