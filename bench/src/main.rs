@@ -234,8 +234,8 @@ fn thousands(n: usize) -> String {
     if n < 1000 { n.to_string() } else { format!("{},{:03}", thousands(n / 1000), n % 1000) }
 }
 
-/// A run as a program makes it: atoms, pairs, parts, joins, reads, and a restore after every hundred calls.
-fn trace() -> Vec<Call> {
+/// A run as a program makes it: atoms, pairs, parts, joins, reads, and, where it restores, a restore after every hundred calls.
+fn trace(restores: bool) -> Vec<Call> {
     let mut calls = Vec::new();
     let mut side = Theirs::of(&State::fresh(TOP));
     let mut cp = Counts::default();
@@ -252,7 +252,7 @@ fn trace() -> Vec<Call> {
             6 => Call::AtomLen(last),
             7 | 8 => Call::NewPair(last, list),
             _ if i % 100 == 9 => Call::TransparentCheckpoint,
-            _ if i % 100 == 99 => Call::MaybeRestoreWithNode(cp, last),
+            _ if restores && i % 100 == 99 => Call::MaybeRestoreWithNode(cp, last),
             _ => Call::Next(list),
         };
         match side.call(&call) {
@@ -283,5 +283,6 @@ fn main() {
     reads(t);
     creates(t);
     restores(t);
-    t.list("a whole trace of 10,000 calls, with 100 restores, per call", &trace());
+    t.list("a whole trace of 10,000 calls, no restore, per call", &trace(false));
+    t.list("a whole trace of 10,000 calls, with 100 restores, per call", &trace(true));
 }

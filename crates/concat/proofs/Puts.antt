@@ -7,10 +7,14 @@ use native.Mathlib.Omega.{arith}
 use borrow.Author.Tests.{leb-true, ltb-true}
 use lib.ListN.{length, getD}
 use Rattle.rules.specs.declared.Allocator.{Allocator}
+use Rattle.rules.specs.declared.Answer.{Answer}
+use Rattle.rules.specs.declared.Code.{Code}
+use Rattle.rules.specs.declared.Made.{Made}
 use Rattle.rules.specs.Node.{bytesNode, nil}
 use Rattle.rules.specs.Said.{says, done, need, out, refused}
 use Rattle.rules.specs.State.{Store, usedAtom}
 use Rattle.rules.specs.Creates.{concatTests, storeRoom, putAtom, storeAtom, scan, joined, concatPut, newConcat}
+use Rattle.rules.specs.Paper.{codeNumber, made}
 use Rattle.rules.proofs.Tests.{both}
 use Rattle.rules.proofs.Needs.{passed}
 use Rattle.rules.proofs.Sound.{store-lent}
@@ -81,3 +85,8 @@ pub put-all : (a : Allocator) (size : ℕ) (ns : List ℕ) (s : Store) → (leng
 put-all a size [] s h k = absurd (h refl)
 put-all a size (n ∷ []) s h k = absurd (k refl)
 put-all a size (n ∷ m ∷ ns) s h k = refl
+
+-- a refusal's answer and record, as the rules have it
+pub refused-is : (r : Made) (code : Code) (node : ℕ) (a : Allocator) (s : Store) → (r .answer ≡ Answer.Refused code node) × (r .state ≡ a)
+    → made r s ≡ refused (codeNumber code) node a s
+refused-is r code node a s h = simp (h .0, h .1)

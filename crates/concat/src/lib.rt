@@ -17,23 +17,13 @@ ghost use mathlib.Core.Bool.{true};
 ghost use mathlib.Core.List.{List, [], _∷_};
 ghost use Prim.Native.Nat.{ℕ, _+_, _≤_, _<_};
 ghost use lib.ListN.{length};
-ghost use Rattle.rules.specs.Said.{out, refused as refusedWith};
+ghost use Rattle.rules.specs.Said.{out};
 ghost use Rattle.rules.specs.Node.{bytesNode};
 ghost use Rattle.rules.specs.State.{Store, store, atomSlots, usedAtom};
 ghost use Rattle.rules.specs.Creates.{concatTests, storeRoom, putAtom, oneTerm, joined, concatPut, newConcat};
 ghost use Rattle.rules.specs.Reads.{atomOf};
-ghost use Rattle.rules.specs.Paper.{codeNumber, verdictPaper, made};
+ghost use Rattle.rules.specs.Paper.{verdictPaper, made};
 ghost use Rattle.concat.specs.Concat.{Tested, concatAll};
-
-// A refusal leaves the record as it was given.
-fn refused(code: Code, node: u32, a: Allocator) -> Made
-    ensures { λ r. ⌜ ((s : Store) → made r s ≡ refusedWith (codeNumber code) node a s) ⌝ }
-{
-    Made {
-        answer: Answer::Refused(code, node),
-        state: a,
-    }
-}
 
 // What is tested before any node is looked at. A sum past the largest usize is taken as that, which is past every limit.
 fn concat_tests(a: Allocator, bytes: &[u8], starts: &[u32], ends: &[u32], size: usize) -> Verdict
@@ -63,7 +53,7 @@ fn concat_none(a: Allocator, size: usize) -> Made
             state: record::ghost_atom(0, a),
         };
     }
-    refused(Code::InvalidSize, node::NIL, a)
+    creates::refused(Code::InvalidSize, node::NIL, a)
 }
 
 // Whether an atom has that many bytes.
@@ -91,7 +81,7 @@ fn concat_one(a: Allocator, starts: &[u32], ends: &[u32], size: usize, n: u32) -
             answer: Answer::Node(n),
             state: record::ghost_atom(size, a),
         },
-        Verdict::Refused(code, node) => refused(code, node, a),
+        Verdict::Refused(code, node) => creates::refused(code, node, a),
     }
 }
 
@@ -134,12 +124,12 @@ fn concat_all(
 {
     let verdict = sizes::measure(a, starts, ends, size, nodes);
     match verdict {
-        Verdict::Refused(code, node) => refused(code, node, a),
+        Verdict::Refused(code, node) => creates::refused(code, node, a),
         Verdict::Done => {
             if atom::store_room(a, size, bytes.len(), starts.len(), ends.len()) {
                 return put_joined(a, bytes, starts, ends, size, nodes);
             }
-            refused(Code::Full, node::NIL, a)
+            creates::refused(Code::Full, node::NIL, a)
         }
     }
 }
@@ -157,7 +147,7 @@ pub fn new_concat(
 {
     let verdict = concat_tests(a, bytes, starts, ends, new_size);
     match verdict {
-        Verdict::Refused(code, node) => refused(code, node, a),
+        Verdict::Refused(code, node) => creates::refused(code, node, a),
         Verdict::Done => {
             let count = nodes.len();
             if count == 0 {

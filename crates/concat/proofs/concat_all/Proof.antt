@@ -1,5 +1,5 @@
 -- `concat::concat_all` meets its contract. Assumes nothing.
-use Rattle.concat.proofs.Puts.{all-put, all-full}
+use Rattle.concat.proofs.Puts.{all-put, all-full, refused-is}
 use Rattle.concat.proofs.Scans.{scan-size}
 use Rattle.rules.specs.Paper.{verdictPaper}
 use Rattle.rules.specs.Creates.{scan, joined}
@@ -70,7 +70,7 @@ same-length-5 : tie.Need-same-length-5
 same-length-5 c = search needs
 
 returns-2 : tie.Need-returns-2
-returns-2 c = c .refused .ensures _ ∙ simp (← (c .before .before .before .before .measure .ensures), c .before .before .verdict .given .1)
+returns-2 c = refused-is _ _ _ _ _ (c .refused .ensures) ∙ simp (← (c .before .before .before .before .measure .ensures), c .before .before .verdict .given .1)
 
 same-length-6 : tie.Need-same-length-6
 same-length-6 c = search needs
@@ -83,7 +83,7 @@ returns-3 c =
     let t = c .before .before .before in
     let s = t .before .before .before .before .before .before .before .before .before in
     let r = sym (c .before .before .store-room .ensures) ∙ c .before .if1 .left in
-    c .refused2 .ensures _ ∙ sym (all-full (s .args .a) (s .args .size) (s .args .nodes .now) (lent s) (passes t) (long t) r)
+    refused-is _ _ _ _ _ (c .refused2 .ensures) ∙ sym (all-full (s .args .a) (s .args .size) (s .args .nodes .now) (lent s) (passes t) (long t) r)
 
 pub concat-all-spec : {M : Type 1} → statement M
 concat-all-spec =

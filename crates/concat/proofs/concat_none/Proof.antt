@@ -1,4 +1,5 @@
 -- `concat::concat_none` meets its contract. Assumes nothing.
+use Rattle.concat.proofs.Puts.{refused-is}
 use mathlib.Core.Path.{sym, _∙_}
 use borrow.Author.Tests.{ne-eqb}
 use Rattle.rules.specs.Said.{need}
@@ -18,7 +19,7 @@ refused-requires c κs = search needs
 
 returns-2 : tie.Need-returns-2
 unfolding need
-returns-2 c = λ s. c .refused .ensures s ∙ simp (ne-eqb 0 _ (λ e. c .before .if1 .left (sym e)))
+returns-2 c = λ s. refused-is _ _ _ _ s (c .refused .ensures) ∙ simp (ne-eqb 0 _ (λ e. c .before .if1 .left (sym e)))
 
 pub concat-none-spec : {M : Type 1} → statement M
 concat-none-spec = tie.close (tie.spec ghost-atom-requires returns refused-requires returns-2)

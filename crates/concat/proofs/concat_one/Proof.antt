@@ -1,4 +1,5 @@
 -- `concat::concat_one` meets its contract. Assumes nothing.
+use Rattle.concat.proofs.Puts.{refused-is}
 use mathlib.Core.Path.{_∙_}
 use borrow.Author.Needs.{needs}
 use Rattle.concat.proofs.concat_one.Statement.{statement}
@@ -23,7 +24,7 @@ returns : tie.Need-returns
 returns c = λ b. simp (c .ghost-atom .ensures, ← (c .before .before .before .measure-one .ensures), c .before .enum-told .given .1)
 
 returns-2 : tie.Need-returns-2
-returns-2 c = λ b. c .refused .ensures _ ∙ simp (← (c .before .before .before .before .measure-one .ensures), c .before .before .verdict .given .1)
+returns-2 c = λ b. refused-is _ _ _ _ _ (c .refused .ensures) ∙ simp (← (c .before .before .before .before .measure-one .ensures), c .before .before .verdict .given .1)
 
 pub concat-one-spec : {M : Type 1} → statement M
 concat-one-spec =

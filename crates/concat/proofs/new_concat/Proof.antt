@@ -1,5 +1,5 @@
 -- `concat::new_concat` meets its contract. Assumes nothing.
-use Rattle.concat.proofs.Puts.{tested, concat-put, put-none, put-one, put-all}
+use Rattle.concat.proofs.Puts.{tested, concat-put, put-none, put-one, put-all, refused-is}
 use Rattle.concat.specs.Concat.{Tested}
 use Rattle.rules.specs.Paper.{verdictPaper}
 use Rattle.rules.specs.Creates.{concatTests, concatPut, newConcat}
@@ -94,7 +94,7 @@ same-length-9 : tie.Need-same-length-9
 same-length-9 c = search needs
 
 returns-3 : tie.Need-returns-3
-returns-3 c = c .refused .ensures _ ∙ simp (← (c .before .before .before .before .concat-tests .ensures), c .before .before .verdict .given .1)
+returns-3 c = refused-is _ _ _ _ _ (c .refused .ensures) ∙ simp (← (c .before .before .before .before .concat-tests .ensures), c .before .before .verdict .given .1)
 
 same-length-10 : tie.Need-same-length-10
 same-length-10 c = search needs
