@@ -1,7 +1,7 @@
 -- How a state grows over k: an atom slot with or without bytes, a pair; and how it is cut back to k. Ghosts play no part here.
 -- Assumes nothing.
 use Prim.Native.Nat.{ℕ, _+_, _≤_, _<_}
-use mathlib.Core.Path.{_≡_, _∙_}
+use mathlib.Core.Path.{_≡_, refl}
 use mathlib.Core.List.{List}
 use native.Mathlib.Nat.{le-refl, le-trans}
 use native.Mathlib.Omega.{arith}
@@ -93,7 +93,7 @@ module _ {k s : St} (g : Grown k s) where
       atoms = le-trans (x .atoms) (omega arith);
       pairs = x .pairs;
       same = record { bytes = agree-trans _ _ _ _ _ (x .bytes) (x .same .bytes) ag; atoms = atoms-put start end (x .atoms) (x .same .atoms); pairs = x .same .pairs };
-      room = record { bytes = lb ∙ x .room .bytes; atoms = room-put-slot _ start end (x .room .atoms); pairs = x .room .pairs };
+      room = record { bytes = rw lb (x .room .bytes); atoms = room-put-slot _ start end (x .room .atoms); pairs = x .room .pairs };
       later = λ i h l. set₂-ind (λ i y z. From k y z) (s .lists .atoms .starts) (s .lists .atoms .ends) (s .rec .used .atoms) start end i ls le l (x .later i h) f;
     };
   }
@@ -145,3 +145,16 @@ cut-grown {k} {s} h w g =
         later = λ i h l. absurd (omega arith);
       };
     }
+
+-- the same record beside lists that hold what it uses and have the room
+pub longer-on : {s : St} {l : Lists} → WF s → Octets (l .bytes) → Same s l → Room l (s .lists) → On s (record { rec = s .rec; lists = l })
+longer-on {s} {l} w o h r =
+    let z = kept-slots (w .shape) h in
+    let v = w .sound in
+    on
+    (record {
+      shape = record { slot = z .slot; pair = z .pair };
+      octets = o;
+      ext = record { limit = refl; bytes = le-refl _; atoms = le-refl _; pairs = le-refl _; same = h; room = r; later = λ i h l. absurd (omega arith) };
+    })
+    (omega arith)

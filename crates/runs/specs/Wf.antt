@@ -76,17 +76,17 @@ pub record Same (k : St) (l : Lists) : Type 0 where
   pub atoms : SameAtoms (k .rec .used .atoms) (l .atoms) (k .lists .atoms)
   pub pairs : SamePairs (k .rec .used .pairs) (l .pairs) (k .lists .pairs)
 
--- the lists are as long: the slots lent are the same
+-- the lists l have room for all that l′ have: the slots lent are the same, or longer ones
 pub record RoomAtoms (t t′ : AtomSlots) : Type 0 where
-  pub starts : length (t .starts) ≡ length (t′ .starts)
-  pub ends : length (t .ends) ≡ length (t′ .ends)
+  pub starts : length (t′ .starts) ≤ length (t .starts)
+  pub ends : length (t′ .ends) ≤ length (t .ends)
 
 pub record RoomPairs (t t′ : PairSlots) : Type 0 where
-  pub firsts : length (t .firsts) ≡ length (t′ .firsts)
-  pub rests : length (t .rests) ≡ length (t′ .rests)
+  pub firsts : length (t′ .firsts) ≤ length (t .firsts)
+  pub rests : length (t′ .rests) ≤ length (t .rests)
 
 pub record Room (l l′ : Lists) : Type 0 where
-  pub bytes : length (l .bytes) ≡ length (l′ .bytes)
+  pub bytes : length (l′ .bytes) ≤ length (l .bytes)
   pub atoms : RoomAtoms (l .atoms) (l′ .atoms)
   pub pairs : RoomPairs (l .pairs) (l′ .pairs)
 
