@@ -1,4 +1,5 @@
 // Answers as text: the code, the node or -, and the values.
+use clvm_allocator::crossing;
 use rules::Allocator;
 use rules::Answer;
 use rules::Changed;
@@ -20,29 +21,8 @@ use rules::Taken;
 use rules::Truth;
 use rules::Verdict;
 
-// Document 01's number of a code.
-fn code_number(code: Code) -> usize {
-    match code {
-        Code::Unsound => 1,
-        Code::OutOfMemory => 2,
-        Code::TooManyAtoms => 3,
-        Code::TooManyPairs => 4,
-        Code::NotValid => 5,
-        Code::ExpectedAtom => 6,
-        Code::StartOutOfBounds => 7,
-        Code::EndOutOfBounds => 8,
-        Code::InvalidBounds => 9,
-        Code::InvalidSize => 10,
-        Code::NotUsable => 11,
-        Code::InvalidRange => 12,
-        Code::TooLarge => 13,
-        Code::TooFewGhosts => 14,
-        Code::Full => 15,
-    }
-}
-
 fn refused(code: Code, node: u32) {
-    super::text::number(code_number(code));
+    super::text::small(crossing::number_of(code));
     super::text::small(node);
 }
 

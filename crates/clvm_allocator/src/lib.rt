@@ -3,7 +3,7 @@
 pub mod answers;
 pub mod bits;
 pub mod creation;
-mod crossing;
+pub mod crossing;
 pub mod lookup;
 pub mod record;
 pub mod restoring;
