@@ -5,12 +5,19 @@ export CLVM_RS_SRC=${CLVM_RS_SRC:-$root/../shared/docs/src}
 export CLVM_ALLOCATOR_LIB=${CLVM_ALLOCATOR_LIB:-$root/target/staticlib/libclvm_allocator.a}
 export CARGO_TARGET_DIR=$root/target/differential
 
-# find_parts: the source as it was published, and the archive, made if it is missing
+# stale: whether the archive is missing, or older than a crate it may be made of: an archive that was named by hand is taken as it is
+stale() {
+    [ -f "$CLVM_ALLOCATOR_LIB" ] || return 0
+    [ "$CLVM_ALLOCATOR_LIB" = "$root/target/staticlib/libclvm_allocator.a" ] &&
+        [ -n "$(find "$root/crates" -path '*/src/*' -newer "$CLVM_ALLOCATOR_LIB" -print -quit)" ]
+}
+
+# find_parts: the source as it was published, and the archive, made anew if it is stale
 find_parts() {
     CLVM_RS_SRC=$(cd "$CLVM_RS_SRC" && pwd) || return 2
     (cd "$CLVM_RS_SRC" && sha256sum --check --quiet "$root/differential/SHA256SUMS") || return 2
     mkdir -p "$CARGO_TARGET_DIR"
-    if [ ! -f "$CLVM_ALLOCATOR_LIB" ]; then
+    if stale; then
         (cd "$root" && rt staticlib clvm_allocator) >"$CARGO_TARGET_DIR/staticlib.log" 2>&1 || {
             tail -n 20 "$CARGO_TARGET_DIR/staticlib.log"
             return 2
