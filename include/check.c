@@ -20,6 +20,8 @@ static uint32_t starts[SLOTS], ends[SLOTS], firsts[SLOTS], rests[SLOTS];
 _Static_assert(sizeof(clvm_counts) == 3 * sizeof(size_t), "three numbers in a row");
 _Static_assert(sizeof(clvm_checkpoint) == 6 * sizeof(size_t), "six numbers in a row");
 _Static_assert(sizeof(clvm_allocator) == 7 * sizeof(size_t), "seven numbers in a row");
+_Static_assert(offsetof(clvm_loaded, at) == offsetof(clvm_number, value), "code and node, then the place");
+_Static_assert(sizeof(clvm_loaded) == sizeof(clvm_number), "nothing behind the place");
 
 static int checks, failed;
 
@@ -321,6 +323,167 @@ static void check_dead(void) {
     CHECK(back.code == CLVM_INVALID_RANGE && back.node == CLVM_NIL && same_record(a, before));
 }
 
+/* ---- program files */
+
+#define LEVELS 4096
+
+/* Slices and a file for the most levels. */
+static uint32_t deep_firsts[LEVELS], deep_rests[LEVELS];
+static uint8_t deep_file[2 * LEVELS];
+
+#define DEEP deep_firsts, LEVELS, deep_rests, LEVELS
+
+/* (7f . (80 80 . "hello")): a small atom, a stored one of two bytes, and one of five. */
+static const uint8_t sample[] = {0xff, 0x7f, 0xff, 0x82, 0x80, 0x80, 0x85, 'h', 'e', 'l', 'l', 'o'};
+
+static int refused_at(clvm_loaded got, uint32_t code, size_t at) {
+    return got.code == code && got.node == CLVM_NIL && got.at == at;
+}
+
+static int refused_write(clvm_number got, uint32_t code) {
+    return got.code == code && got.node == CLVM_NIL && got.value == 0;
+}
+
+/* A file into the slots and back. */
+static void check_file(void) {
+    clvm_allocator a = fresh(TOP);
+    clvm_loaded got = clvm_load(&a, STORE, PAIRS, sample, sizeof sample);
+    CHECK(got.code == 0 && got.node == 1 && got.at == sizeof sample);
+    CHECK(a.used.atoms == 2 && a.used.pairs == 2 && a.used.bytes == 7 && totals(&a, 5, 2, 9) && well_formed(&a));
+    CHECK(firsts[1] == CLVM_NIL + 127 && rests[1] == 0 && firsts[0] == 67108864 && rests[0] == 67108865);
+    CHECK(memcmp(bytes, "\x80\x80hello", 7) == 0);
+
+    uint8_t file[16];
+    for (size_t room = 0; room <= sizeof file; room++) {
+        memset(file, 0xdd, sizeof file);
+        clvm_number put = clvm_save(&a, STORE, PAIRS, got.node, file, room);
+        size_t written = room < sizeof sample ? 0 : sizeof sample;
+        CHECK(written == 0 ? refused_write(put, CLVM_NO_SPACE) : put.code == 0 && put.node == CLVM_NIL && put.value == written);
+        CHECK(memcmp(file, sample, written) == 0);
+        for (size_t i = written; i < sizeof file; i++)
+            CHECK(file[i] == 0xdd);
+    }
+    CHECK(refused_write(clvm_save(&a, STORE, PAIRS, got.node, NONE), CLVM_NO_SPACE));
+
+    /* a longer prefix reads the same and is written as the shortest */
+    static const uint8_t longer[] = {0xf8, 0x00, 0x00, 0x00, 0x05, 'h', 'e', 'l', 'l', 'o'};
+    got = clvm_load(&a, STORE, PAIRS, longer, sizeof longer);
+    CHECK(got.code == 0 && got.node == 67108866 && got.at == sizeof longer);
+    clvm_number put = clvm_save(&a, STORE, PAIRS, got.node, file, sizeof file);
+    CHECK(put.code == 0 && put.value == 6 && memcmp(file, "\x85hello", 6) == 0);
+    put = clvm_save(&a, STORE, PAIRS, CLVM_NIL, file, 1);
+    CHECK(put.code == 0 && put.value == 1 && file[0] == 0x80);
+    put = clvm_save(&a, STORE, PAIRS, CLVM_NIL + 128, file, 3);
+    CHECK(put.code == 0 && put.value == 3 && memcmp(file, "\x82\x00\x80", 3) == 0);
+}
+
+/* Files that are none: the record is as it was, and the code and the place are those of the first fault. */
+static void check_bad_files(void) {
+    static const struct {
+        uint8_t file[6];
+        size_t len, at;
+    } rows[] = {
+        {{0}, 0, 0},
+        {{0xfc, 0x00, 0x00, 0x00, 0x00, 0x00}, 6, 0},
+        {{0xfd, 0x00, 0x00, 0x00, 0x00, 0x00}, 6, 0},
+        {{0xfe, 0x00, 0x00, 0x00, 0x00, 0x00}, 6, 0},
+        {{0x82, 'a'}, 2, 0},
+        {{0xc0}, 1, 0},
+        {{0xfb, 0xff, 0xff, 0xff, 0xff, 'a'}, 6, 0},
+        {{0xff}, 1, 1},
+        {{0xff, 0x80}, 2, 2},
+        {{0xff, 0x82, 'a', 'b', 0xfe}, 5, 4},
+        {{0x01, 0x02}, 2, 1},
+        {{0xff, 0x01, 0x02, 0xff}, 4, 3},
+    };
+    clvm_allocator a = fresh(TOP);
+    CHECK(clvm_load(&a, STORE, PAIRS, sample, sizeof sample).code == 0);
+    clvm_allocator before = a;
+    for (size_t i = 0; i < sizeof rows / sizeof rows[0]; i++)
+        CHECK(refused_at(clvm_load(&a, STORE, PAIRS, rows[i].file, rows[i].len), CLVM_BAD_ENCODING, rows[i].at));
+    CHECK(refused_at(clvm_load(&a, STORE, PAIRS, NONE), CLVM_BAD_ENCODING, 0));
+    for (size_t len = 0; len < sizeof sample; len++)
+        CHECK(clvm_load(&a, STORE, PAIRS, sample, len).code == CLVM_BAD_ENCODING);
+    CHECK(same_record(a, before) && well_formed(&a));
+}
+
+/* What the reader's calls refuse, in mid-file. */
+static void check_file_limits(void) {
+    size_t len = sizeof sample;
+    clvm_allocator a = fresh(7), before = a;
+    memset(bytes, 0xdd, sizeof bytes);
+    CHECK(refused_at(clvm_load(&a, STORE, PAIRS, sample, len), CLVM_OUT_OF_MEMORY, 6) && same_record(a, before));
+    CHECK(bytes[0] == 0x80 && bytes[1] == 0x80 && bytes[2] == 0xdd);
+    a = fresh(9);
+    CHECK(clvm_load(&a, STORE, PAIRS, sample, len).code == 0);
+
+    a = before = (clvm_allocator){{0, 0, 0}, {62499998, 0, 1}, TOP};
+    CHECK(refused_at(clvm_load(&a, STORE, PAIRS, sample, len), CLVM_TOO_MANY_ATOMS, 6) && same_record(a, before));
+    a = before = (clvm_allocator){{0, 0, 0}, {2, 62499999, 1}, TOP};
+    CHECK(refused_at(clvm_load(&a, STORE, PAIRS, sample, len), CLVM_TOO_MANY_PAIRS, 0) && same_record(a, before));
+
+    a = before = fresh(TOP);
+    CHECK(refused_at(clvm_load(&a, bytes, 6, ATOMS, PAIRS, sample, len), CLVM_FULL, 6));
+    CHECK(refused_at(clvm_load(&a, BYTES, starts, 1, ends, SLOTS, PAIRS, sample, len), CLVM_FULL, 6));
+    CHECK(refused_at(clvm_load(&a, BYTES, starts, SLOTS, ends, 0, PAIRS, sample, len), CLVM_FULL, 3));
+    CHECK(refused_at(clvm_load(&a, STORE, firsts, 1, rests, SLOTS, sample, len), CLVM_FULL, 0));
+    CHECK(refused_at(clvm_load(&a, STORE, firsts, SLOTS, rests, 0, sample, len), CLVM_FULL, 2));
+    CHECK(same_record(a, before));
+    CHECK(clvm_load(&a, bytes, 7, starts, 2, ends, 2, firsts, 2, rests, 2, sample, len).code == 0);
+
+    clvm_allocator bad = a, given = a;
+    bad.used.bytes = given.used.bytes = SIZE_MAX;
+    CHECK(refused_at(clvm_load(&bad, STORE, PAIRS, sample, len), CLVM_UNSOUND, 0) && same_record(bad, given));
+    CHECK(refused_write(clvm_save(&bad, STORE, PAIRS, 1, deep_file, sizeof deep_file), CLVM_UNSOUND));
+}
+
+/* Nodes that cannot be written: 5, and 1 for a slot that must be read. */
+static void check_bad_nodes(void) {
+    clvm_allocator a = fresh(TOP);
+    uint8_t file[16] = {9};
+    CHECK(clvm_load(&a, STORE, PAIRS, sample, sizeof sample).node == 1);
+    CHECK(refused_write(clvm_save(&a, STORE, PAIRS, 2, file, sizeof file), CLVM_NOT_VALID));
+    CHECK(refused_write(clvm_save(&a, STORE, PAIRS, UINT32_MAX, file, sizeof file), CLVM_NOT_VALID));
+    CHECK(refused_write(clvm_save(&a, STORE, PAIRS, 2, NONE), CLVM_NOT_VALID));
+    firsts[0] = 67108866;
+    CHECK(refused_write(clvm_save(&a, STORE, PAIRS, 1, file, sizeof file), CLVM_UNSOUND));
+    firsts[0] = 67108864;
+    ends[1] = 8;
+    CHECK(refused_write(clvm_save(&a, STORE, PAIRS, 1, file, sizeof file), CLVM_UNSOUND));
+    CHECK(file[0] == 9 && file[1] == 0);
+}
+
+/* The most levels, and one too many: pairs along first, then along rest. */
+static void check_levels(void) {
+    clvm_allocator a = fresh(TOP), before = a;
+    memset(deep_file, 0xff, LEVELS);
+    memset(deep_file + LEVELS - 1, 0x05, LEVELS);
+    clvm_loaded got = clvm_load(&a, STORE, DEEP, deep_file, 2 * LEVELS - 1);
+    CHECK(got.code == 0 && got.node == LEVELS - 2 && got.at == 2 * LEVELS - 1 && a.used.pairs == LEVELS - 1);
+    clvm_number put = clvm_save(&a, STORE, DEEP, got.node, deep_file, 2 * LEVELS - 1);
+    CHECK(put.code == 0 && put.value == 2 * LEVELS - 1);
+    clvm_answer over = clvm_new_pair(&a, DEEP, got.node, CLVM_NIL);
+    put = clvm_save(&a, STORE, DEEP, over.node, deep_file, sizeof deep_file);
+    CHECK(over.code == 0 && refused_write(put, CLVM_TOO_DEEP));
+    put = clvm_save(&a, STORE, DEEP, over.node, deep_file, LEVELS - 1);
+    CHECK(refused_write(put, CLVM_NO_SPACE));
+
+    a = before;
+    CHECK(refused_at(clvm_load(&a, STORE, DEEP, deep_file, LEVELS - 1), CLVM_BAD_ENCODING, LEVELS - 1));
+    deep_file[LEVELS - 1] = 0xff;
+    CHECK(refused_at(clvm_load(&a, STORE, DEEP, deep_file, LEVELS), CLVM_TOO_DEEP, LEVELS) && same_record(a, before));
+
+    for (size_t i = 0; i < 2 * LEVELS; i += 2) {
+        deep_file[i] = 0xff;
+        deep_file[i + 1] = 0x05;
+    }
+    CHECK(refused_at(clvm_load(&a, STORE, DEEP, deep_file, 2 * LEVELS), CLVM_TOO_DEEP, 2 * LEVELS - 1));
+    CHECK(same_record(a, before));
+    deep_file[2 * LEVELS - 2] = 0x05;
+    got = clvm_load(&a, STORE, DEEP, deep_file, 2 * LEVELS - 1);
+    CHECK(got.code == 0 && got.at == 2 * LEVELS - 1 && clvm_well_formed(&a, STORE, DEEP) == 1);
+}
+
 /* ---- bad input: any numbers, and any slices with true lengths, get an answer or a code */
 
 static uint64_t seed = 88172645463325252u;
@@ -406,6 +569,58 @@ static int read_only(uint32_t code) {
     return code <= CLVM_FULL && memcmp(&lent, &given, sizeof lent) == 0;
 }
 
+/* A refused load may have written past the used lengths, within what it was lent. */
+static int unread(const void *now, const void *before, size_t used, size_t len, size_t size) {
+    return used <= len && memcmp(now, before, used * size) == 0 && kept(now, before, len, size);
+}
+
+static int loaded(clvm_loaded got, size_t file_len) {
+    clvm_counts used = given.a.used;
+    if (got.code == 0 || got.code == CLVM_UNSOUND)
+        return answered(got.code) && got.at == (got.code == 0 ? file_len : 0);
+    return got.code <= CLVM_NO_SPACE && got.node == CLVM_NIL && got.at <= file_len && same_record(lent.a, given.a) &&
+           unread(lent.bytes, given.bytes, used.bytes, bytes_len, 1) &&
+           unread(lent.starts, given.starts, used.atoms, starts_len, 4) &&
+           unread(lent.ends, given.ends, used.atoms, ends_len, 4) &&
+           unread(lent.firsts, given.firsts, used.pairs, firsts_len, 4) &&
+           unread(lent.rests, given.rests, used.pairs, rests_len, 4);
+}
+
+/* Bytes of which most start an item, so that some files are read far. */
+static void any_file(uint8_t *file, size_t len) {
+    for (size_t i = 0; i < len; i++) {
+        uint64_t r = next_random();
+        file[i] = r % 3 == 0 ? 0xff : r % 3 == 1 ? (uint8_t)(0x80 + (r >> 8) % 4) : (uint8_t)(r >> 8);
+    }
+}
+
+static size_t smaller(size_t x, size_t y) {
+    return x < y ? x : y;
+}
+
+/* A record that is sound beside the slices lent, whatever their slots hold. */
+static clvm_allocator sound_record(void) {
+    size_t atoms = smaller(starts_len, ends_len), pairs = smaller(firsts_len, rests_len);
+    clvm_counts used = {any_number() % (atoms + 1), any_number() % (pairs + 1), any_number() % (bytes_len + 1)};
+    return (clvm_allocator){used, {2, 0, 1}, next_random() % 4 == 0 ? used.bytes + 5 : TOP};
+}
+
+/* A load of any bytes, and a save of any node: also one below which the nodes go round. */
+static void check_any_file(uint32_t n) {
+    uint8_t file[SLOTS], written[SLOTS];
+    any_file(file, sizeof file);
+    memcpy(written, file, sizeof file);
+    size_t room = next_random() % (next_random() % 2 == 0 ? 8 : SLOTS);
+    if (next_random() % 4 != 0) {
+        lent.a = sound_record();
+        given = lent;
+    }
+    clvm_number put = clvm_save(&lent.a, LENT_STORE, LENT_PAIRS, n, written, room);
+    CHECK(memcmp(&lent, &given, sizeof lent) == 0 && put.code <= CLVM_NO_SPACE && put.value <= room);
+    CHECK(kept(written, file, put.value, 1));
+    CHECK(loaded(clvm_load(&lent.a, LENT_STORE, LENT_PAIRS, file, room), room));
+}
+
 /* The calls that read the record alone. */
 static void check_counts(void) {
     CHECK(read_only(clvm_atom_count(&lent.a).code));
@@ -468,6 +683,8 @@ static void check_bad_input(void) {
         check_counts();
         check_reads(n, m);
         CHECK(answered(write_by(round % WRITES, n, m)));
+        any_world();
+        check_any_file(n);
     }
 }
 
@@ -482,6 +699,11 @@ int main(void) {
     check_savings();
     check_restores();
     check_dead();
+    check_file();
+    check_bad_files();
+    check_file_limits();
+    check_bad_nodes();
+    check_levels();
     check_bad_input();
     printf("%d checks, %d failed\n", checks, failed);
     return failed != 0;

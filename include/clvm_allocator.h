@@ -26,8 +26,8 @@ extern "C" {
  *
  * Every answer that can be a refusal begins with code and node. code is 0 where the call was accepted, else the reason. On a
  * refusal node is the node that goes with the code (see below), every value is 0, and the record, the checkpoints and the
- * slices are as they were (but see clvm_new_limited). Where a call is accepted, node is the node that it made, and CLVM_NIL
- * where it makes none.
+ * slices are as they were (but see clvm_new_limited and clvm_load). Where a call is accepted, node is the node that it made,
+ * and CLVM_NIL where it makes none.
  *
  * No call has a precondition but these on the pointers: any numbers, in the record, the slots and a checkpoint too, get an
  * answer or a code.
@@ -53,7 +53,11 @@ enum {
     CLVM_INVALID_RANGE = 12,       /* invalid atom byte range */
     CLVM_TOO_LARGE = 13,           /* a small number above 67,108,863 */
     CLVM_TOO_FEW_GHOSTS = 14,      /* removing more ghost pairs than there are */
-    CLVM_FULL = 15                 /* the slices lent cannot hold the result: lend longer ones and call again */
+    CLVM_FULL = 15,                /* the slices lent cannot hold the result: lend longer ones and call again */
+    /* 16 is the request program's own: no call answers it */
+    CLVM_BAD_ENCODING = 17,        /* load: no item starts there, or the file ends within one or goes on after the root */
+    CLVM_TOO_DEEP = 18,            /* load and save: more than 4,096 levels */
+    CLVM_NO_SPACE = 19             /* save: the slice lent for the file is too short: lend a longer one and call again */
 };
 
 /* What a node is: clvm_object_type's value, and clvm_visited's kind. */
@@ -154,6 +158,14 @@ typedef struct clvm_restored {
     uint32_t node;
     uint32_t outcome;
 } clvm_restored;
+
+/* The root of a program file; at is then the file's length. On a refusal at is not 0 as a value is, but says where in the file
+ * the item at fault starts: 0 with code 1, where none was read. */
+typedef struct clvm_loaded {
+    uint32_t code;
+    uint32_t node;
+    size_t at;
+} clvm_loaded;
 
 /* ---- the record */
 
@@ -328,6 +340,39 @@ clvm_restored clvm_maybe_restore_with_node(
     const uint32_t *firsts, size_t firsts_len,
     const uint32_t *rests, size_t rests_len,
     const clvm_counts *checkpoint, uint32_t n);
+
+/* ---- program files
+ *
+ * A file holds one tree: ff, first, rest for a pair; 80 for the empty atom; a byte below 80 for itself; else a prefix with the
+ * length, one to five bytes that start at 80, c0, e0, f0 or f8, and the bytes. It has at most 4,096 levels, the root being
+ * level 1, and either call goes down level by level: on the deepest file it takes just under 2 MB of stack.
+ */
+
+/* Reads a whole file into the slots, as clvm_new_atom and clvm_new_pair would: first, rest, then the pair. A prefix need not be
+ * the shortest. A refusal is the first fault in file order, and takes all back: the record is as it was, and so are the slots
+ * within its used lengths, but those past them may hold what was read before the fault. On 15 nothing is lost by lending longer
+ * slices and calling again: n bytes of file need at most n bytes more, n / 2 + 1 atoms and n / 2 pairs. */
+clvm_loaded clvm_load(
+    clvm_allocator *a,
+    uint8_t *bytes, size_t bytes_len,
+    uint32_t *starts, size_t starts_len,
+    uint32_t *ends, size_t ends_len,
+    uint32_t *firsts, size_t firsts_len,
+    uint32_t *rests, size_t rests_len,
+    const uint8_t *file, size_t file_len);
+
+/* Writes a node's shortest form to the front of file; value is how many bytes that took. A refusal is the first fault in file
+ * order, and changes no byte. A node that is met twice is written twice, so that a small store can hold a tree with a huge file;
+ * the call ends at the first byte that does not fit. */
+clvm_number clvm_save(
+    const clvm_allocator *a,
+    const uint8_t *bytes, size_t bytes_len,
+    const uint32_t *starts, size_t starts_len,
+    const uint32_t *ends, size_t ends_len,
+    const uint32_t *firsts, size_t firsts_len,
+    const uint32_t *rests, size_t rests_len,
+    uint32_t n,
+    uint8_t *file, size_t file_len);
 
 #ifdef __cplusplus
 }

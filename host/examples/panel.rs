@@ -1,5 +1,7 @@
-//! Prints a panel of the counts (atoms, pairs, heap: used, ghost, total) along a short run with a restore.
+//! Prints a panel of the counts (atoms, pairs, heap: used, ghost, total) along a short run with a restore; or, given a program
+//! file, after it is loaded.
 use clvm_allocator::{Allocator, MaybeRestore, Result};
+use std::process::ExitCode;
 
 /// A row for each count: what is stored, what is counted beside it, and both.
 fn panel(step: &str, a: &Allocator) {
@@ -15,7 +17,18 @@ fn panel(step: &str, a: &Allocator) {
     }
 }
 
-fn main() -> Result<()> {
+/// The panel of a program file, or why there is none.
+fn loaded(path: &str) -> std::result::Result<(), Box<dyn std::error::Error>> {
+    let file = std::fs::read(path)?;
+    let mut a = Allocator::new();
+    let root = a.load(&file)?;
+    let shortest = a.save_to_vec(root, file.len())?.len();
+    println!("{root:?} of {} bytes, {shortest} if saved", file.len());
+    panel("a new allocator into which the file was loaded", &a);
+    Ok(())
+}
+
+fn run() -> Result<()> {
     let mut a = Allocator::new();
     panel("a new allocator: nil and one are counted", &a);
 
@@ -50,4 +63,16 @@ fn main() -> Result<()> {
 
     assert!(a.next(list)?.is_some() && a.well_formed());
     Ok(())
+}
+
+fn main() -> ExitCode {
+    let done = match std::env::args().nth(1) {
+        Some(path) => loaded(&path).map_err(|why| format!("{path}: {why}")),
+        None => run().map_err(|why| why.to_string()),
+    };
+    if let Err(why) = done {
+        eprintln!("{why}");
+        return ExitCode::FAILURE;
+    }
+    ExitCode::SUCCESS
 }

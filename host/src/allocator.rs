@@ -1,6 +1,6 @@
 //! The allocator: the library's record, and the slots that are lent with it to the library's calls. What a program calls often is
 //! inlined there, so that it pays for the library's call and no other.
-use crate::error::{accepted, Code, EvalErr, Result};
+use crate::error::{accepted, Code, EvalErr, LoadErr, Result};
 use crate::ffi::{self, Counts, Held, Plain};
 use crate::node::{Atom, MaybeRestore, NodePtr, NodeStatus, NodeVisitor, SExp};
 
@@ -14,6 +14,12 @@ const LEAST: usize = 64;
 const INTEGER: usize = 9;
 /// A small atom has at most so many bytes.
 const SMALL: usize = 4;
+/// What a pair starts with in a file.
+const PAIR_MARK: u8 = 0xff;
+/// The most levels of a file.
+const LEVELS: usize = 4096;
+/// Slots for a file that needs more grow by this length, or by all that it could need.
+const FILE_STEP: usize = 1 << 16;
 
 /// A former state of an allocator, to which [`Allocator::restore_checkpoint`] goes back with all its counters.
 #[derive(Clone, Copy, Debug, PartialEq, Eq)]
@@ -57,6 +63,20 @@ fn grow<T: Clone + Default>(slots: &mut Vec<T>, needed: usize, most: usize) -> b
     }
     slots.resize(len, T::default());
     true
+}
+
+/// Makes a slice longer for more of a file, which could fill no more than the whole beyond what is used: four times as much as was
+/// free, and a step at least. So a short file gets all it could need at once; a long one that is refused early costs little; and
+/// the loads that were full read, all in all, about as much as the one that is not.
+fn grow_for_file<T: Clone + Default>(
+    slots: &mut Vec<T>,
+    used: usize,
+    whole: usize,
+    most: usize,
+) -> bool {
+    let free = slots.len().saturating_sub(used);
+    let more = free.saturating_mul(4).max(FILE_STEP).min(whole);
+    grow(slots, used.saturating_add(more), most)
 }
 
 /// What a call that makes a node answers.
@@ -111,6 +131,27 @@ impl Allocator {
         let firsts = grow(&mut held.firsts, pairs, MOST_SLOTS);
         let rests = grow(&mut held.rests, pairs, MOST_SLOTS);
         firsts || rests
+    }
+
+    /// Makes room for more of a file, after a load that was full at the item at a place: a pair lacks pair slots, an atom bytes or
+    /// atom slots. A file has one atom more than pairs, and each takes a byte: that bounds both by half its length. At any time a
+    /// load has made at most as many atoms as pairs, and one for each level: more slots than that would be for nothing.
+    #[cold]
+    fn grow_file(&mut self, file: &[u8], at: usize) -> bool {
+        let held = &mut self.held;
+        let used = held.record.used;
+        let half = file.len() / 2 + 1;
+        if file.get(at) == Some(&PAIR_MARK) {
+            let firsts = grow_for_file(&mut held.firsts, used.pairs, half, MOST_SLOTS);
+            let rests = grow_for_file(&mut held.rests, used.pairs, half, MOST_SLOTS);
+            return firsts || rests;
+        }
+        let pairs = held.firsts.len().saturating_sub(used.pairs);
+        let atoms = used.atoms.saturating_add(half.min(pairs + LEVELS));
+        let store = grow_for_file(&mut held.bytes, used.bytes, file.len(), MOST_BYTES);
+        let starts = grow(&mut held.starts, atoms, MOST_SLOTS);
+        let ends = grow(&mut held.ends, atoms, MOST_SLOTS);
+        store || starts || ends
     }
 
     /// A creating call, asked again as long as it is full and there is room to be made. It changes the record in place, and a
@@ -284,6 +325,69 @@ impl Allocator {
     pub fn new_concat(&mut self, new_size: usize, nodes: &[NodePtr]) -> Result<NodePtr> {
         let nodes = ffi::numbers(nodes);
         self.make_atom(new_size, |held| held.new_concat(new_size, nodes))
+    }
+
+    // ---- program files
+
+    /// The tree of a program file: `ff`, first, rest for a pair; `80` for the empty atom; a byte below `80` for itself; else a
+    /// prefix with the length, and the bytes. The whole file must be one item, of at most 4,096 levels. Prefixes need not be the
+    /// shortest.
+    ///
+    /// Atoms and pairs are made as by [`Allocator::new_atom`] and [`Allocator::new_pair`], in the order of the file, and meet
+    /// their limits. A refusal is the first fault in that order, and takes back all that was made.
+    ///
+    /// ```
+    /// use clvm_allocator::{Allocator, Code};
+    ///
+    /// let mut a = Allocator::new();
+    /// let refused = a.load(b"\xff\x85hello").unwrap_err();
+    /// assert_eq!((refused.code, refused.at), (Code::BadEncoding, 7));
+    /// assert_eq!(refused.to_string(), "bad encoding at byte 7");
+    /// assert_eq!(a.allocated_atom_count(), 0);
+    /// ```
+    pub fn load(&mut self, file: &[u8]) -> std::result::Result<NodePtr, LoadErr> {
+        loop {
+            let loaded = self.held.load(file);
+            let refused = match accepted(loaded) {
+                Ok(_) => return Ok(NodePtr::of(loaded.node)),
+                Err(refused) => refused,
+            };
+            if refused.code != Code::Full || !self.grow_file(file, loaded.at) {
+                return Err(LoadErr {
+                    code: refused.code,
+                    at: loaded.at,
+                });
+            }
+        }
+    }
+
+    /// Writes a node's program file to the front of a slice, by the shortest prefixes; how many bytes it has. A refused write
+    /// changes no byte: [`Code::NoSpace`] where the slice is too short, [`Code::TooDeep`] above 4,096 levels.
+    ///
+    /// A node that is met twice is written twice, so that the file of a small store can be of any length. The slice bounds the
+    /// time too.
+    pub fn save(&self, node: NodePtr, file: &mut [u8]) -> Result<usize> {
+        Ok(accepted(self.held.save(node.bits(), file))?.value)
+    }
+
+    /// A node's program file, if it has at most so many bytes; else, or if this machine's memory cannot hold it,
+    /// [`Code::NoSpace`].
+    pub fn save_to_vec(&self, node: NodePtr, most: usize) -> Result<Vec<u8>> {
+        let mut file = Vec::new();
+        loop {
+            match self.save(node, &mut file) {
+                Ok(length) => {
+                    file.truncate(length);
+                    return Ok(file);
+                }
+                Err(refused) => {
+                    let longer = file.len().saturating_add(1);
+                    if refused.code != Code::NoSpace || !grow(&mut file, longer, most) {
+                        return Err(refused);
+                    }
+                }
+            }
+        }
     }
 
     // ---- reads

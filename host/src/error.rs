@@ -40,10 +40,16 @@ pub enum Code {
     TooFewGhosts = 14,
     /// 4,294,967,295 bytes, or this machine's memory, cannot hold the result.
     Full = 15,
+    /// load: no item starts there, or the file ends within one or goes on after the root.
+    BadEncoding = 17,
+    /// load and save: more than 4,096 levels.
+    TooDeep = 18,
+    /// save: the file is longer than the room for it.
+    NoSpace = 19,
 }
 
 impl Code {
-    const ALL: [Code; 15] = [
+    const ALL: [Code; 18] = [
         Code::Unsound,
         Code::OutOfMemory,
         Code::TooManyAtoms,
@@ -59,6 +65,9 @@ impl Code {
         Code::TooLarge,
         Code::TooFewGhosts,
         Code::Full,
+        Code::BadEncoding,
+        Code::TooDeep,
+        Code::NoSpace,
     ];
 
     /// The code as the library numbers it.
@@ -66,10 +75,12 @@ impl Code {
         self as u32
     }
 
-    /// The code of a number from 1 to 15. The library has no other; were there one, the state is not to be trusted.
+    /// The code of a number. The library has no other (16 is its request program's); were there one, the state is not to be
+    /// trusted.
     fn of(number: u32) -> Code {
-        let at = usize::try_from(number.wrapping_sub(1)).unwrap_or(usize::MAX);
-        Code::ALL.get(at).copied().unwrap_or(Code::Unsound)
+        let mut all = Code::ALL.into_iter();
+        all.find(|code| code.number() == number)
+            .unwrap_or(Code::Unsound)
     }
 
     /// In words; clvm_rs's where it has such an error.
@@ -90,6 +101,9 @@ impl Code {
             Code::TooLarge => "small number too large",
             Code::TooFewGhosts => "fewer ghost pairs than were to be removed",
             Code::Full => "no room for the result",
+            Code::BadEncoding => "bad encoding",
+            Code::TooDeep => "more than 4,096 levels",
+            Code::NoSpace => "no room for the file",
         }
     }
 }
@@ -110,6 +124,33 @@ impl fmt::Display for EvalErr {
 }
 
 impl std::error::Error for EvalErr {}
+
+/// Why a program file was not loaded: the reason, and where in the file. No reason names a node.
+#[derive(Clone, Copy, Debug, PartialEq, Eq, Hash)]
+pub struct LoadErr {
+    /// The reason.
+    pub code: Code,
+    /// Where the item at fault starts: how many bytes of the file lie before it.
+    pub at: usize,
+}
+
+impl fmt::Display for LoadErr {
+    fn fmt(&self, f: &mut fmt::Formatter<'_>) -> fmt::Result {
+        write!(f, "{} at byte {}", self.code.words(), self.at)
+    }
+}
+
+impl std::error::Error for LoadErr {}
+
+/// For a program that does not tell the place.
+impl From<LoadErr> for EvalErr {
+    fn from(refused: LoadErr) -> EvalErr {
+        EvalErr {
+            code: refused.code,
+            node: NodePtr::NIL,
+        }
+    }
+}
 
 /// An answer of the library, unless it is a refusal.
 #[inline]

@@ -74,6 +74,7 @@ answers! {
     struct Status { status: u32, start: usize, end: usize }
     struct Answer {}
     struct Restored { outcome: u32 }
+    struct Loaded { at: usize }
 }
 
 pub const PAIR: usize = 0;
@@ -321,6 +322,37 @@ unsafe extern "C" {
         k: &Counts,
         n: u32,
     ) -> Restored;
+    fn clvm_load(
+        a: &mut Record,
+        bytes: *mut u8,
+        bytes_len: usize,
+        starts: *mut u32,
+        starts_len: usize,
+        ends: *mut u32,
+        ends_len: usize,
+        firsts: *mut u32,
+        firsts_len: usize,
+        rests: *mut u32,
+        rests_len: usize,
+        file: *const u8,
+        file_len: usize,
+    ) -> Loaded;
+    fn clvm_save(
+        a: &Record,
+        bytes: *const u8,
+        bytes_len: usize,
+        starts: *const u32,
+        starts_len: usize,
+        ends: *const u32,
+        ends_len: usize,
+        firsts: *const u32,
+        firsts_len: usize,
+        rests: *const u32,
+        rests_len: usize,
+        n: u32,
+        file: *mut u8,
+        file_len: usize,
+    ) -> Number;
 }
 
 /// What a byte string is as a small atom.

@@ -24,6 +24,13 @@
 //! without a slot here also where clvm_rs does not come to read it, as `sexp` of such an atom. And a restore is refused
 //! ([`Code::NotUsable`]) after which a slot that is kept would reach past what is kept.
 //!
+//! # Program files
+//!
+//! [`Allocator::load`] reads a tree from the serialised form of the public CLVM documentation; [`Allocator::save`] and
+//! [`Allocator::save_to_vec`] write it, with the shortest prefixes. A file that is not loaded is refused by a [`LoadErr`], which
+//! says where the fault lies. A file has at most 4,096 levels, and these calls go down level by level: the deepest one takes
+//! just under 2 MB of stack, so that a thread of the standard size (2 MiB) can load it.
+//!
 //! # Example
 //!
 //! ```
@@ -33,6 +40,11 @@
 //! let pair = a.new_pair(atom, a.nil())?;
 //! assert_eq!(&*a.atom(atom)?, b"hello");
 //! assert_eq!(a.next(pair)?, Some((atom, a.nil())));
+//!
+//! let file = a.save_to_vec(pair, 1000)?;
+//! assert_eq!(file, b"\xff\x85hello\x80");
+//! let again = a.load(&file)?;
+//! assert_eq!(a.save_to_vec(again, 1000)?, file);
 //! # Ok(())
 //! # }
 //! ```
@@ -48,7 +60,7 @@ pub mod ffi;
 mod node;
 
 pub use allocator::{Allocator, Checkpoint, TransparentCheckpoint};
-pub use error::{Code, EvalErr, Result};
+pub use error::{Code, EvalErr, LoadErr, Result};
 pub use node::{
     fits_in_small_atom, len_for_value, Atom, MaybeRestore, NodePtr, NodeStatus, NodeVisitor,
     ObjectType, SExp,

@@ -1,5 +1,4 @@
 // Answers as text: the code, the node or -, and the values.
-use clvm_allocator::crossing;
 use rules::Allocator;
 use rules::Answer;
 use rules::Changed;
@@ -22,7 +21,7 @@ use rules::Truth;
 use rules::Verdict;
 
 fn refused(code: Code, node: u32) {
-    super::text::small(crossing::number_of(code));
+    super::text::small(node::code::number_of(code));
     super::text::small(node);
 }
 

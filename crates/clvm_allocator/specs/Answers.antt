@@ -8,8 +8,11 @@ use Rattle.rules.specs.Node.{nil}
 use Rattle.rules.specs.Small.{lenFor}
 use Rattle.rules.specs.Said.{Said, says, refuses, Done, done, NoLists, noLists, Out}
 use Rattle.rules.specs.Reads.{Kind, pairKind, bytesKind, smallKind, Atom, range, value, Visited, buffer, number, children, Sexp, atomic, branch, Status, before, afterNewBytes, afterOldBytes}
+use Rattle.rules.specs.State.{Lists}
+use Rattle.rules.specs.Load.{Reading}
+use Rattle.rules.specs.Save.{Saving}
 use Rattle.rules.specs.Restores.{Restoring, noReplace, replace, aborted}
-use Rattle.clvm_allocator.specs.Rows.{recordRow}
+use Rattle.rows.specs.Rows.{recordRow}
 use Rattle.clvm_allocator.specs.declared.answers.CNumber.{CNumber}
 use Rattle.clvm_allocator.specs.declared.answers.COption.{COption}
 use Rattle.clvm_allocator.specs.declared.answers.CVisited.{CVisited}
@@ -18,6 +21,7 @@ use Rattle.clvm_allocator.specs.declared.answers.CPart.{CPart}
 use Rattle.clvm_allocator.specs.declared.answers.CStatus.{CStatus}
 use Rattle.clvm_allocator.specs.declared.answers.CAnswer.{CAnswer}
 use Rattle.clvm_allocator.specs.declared.answers.CRestored.{CRestored}
+use Rattle.clvm_allocator.specs.declared.answers.CLoaded.{CLoaded}
 
 -- yes is 1, no is 0
 abbrev pub bit : Bool → ℕ
@@ -78,6 +82,10 @@ abbrev pub answerC : Said ℕ → CAnswer
 answerC (says n) = record { code = 0; node = n }
 answerC (refuses code node) = record { code = code; node = node }
 
+-- a program file's root and the place where reading came to, or the place of the item at fault
+abbrev pub loadedC : Said ℕ → ℕ → CLoaded
+loadedC said at = record { code = answerC said .code; node = answerC said .node; at = at }
+
 -- a call that makes no node
 abbrev pub doneC : Said Done → CAnswer
 doneC (says done) = record { code = 0; node = nil }
@@ -93,7 +101,7 @@ restoredC (says (replace n)) = went n 1
 restoredC (says aborted) = went nil 2
 restoredC (refuses code node) = record { code = code; node = node; outcome = 0 }
 
--- all that a call gives: its answer, the row that it was lent for writing, and the lists, as it leaves them
+-- all that a call gives: its answer, the row (a record's, a checkpoint's, a file's) that it was lent for writing, and the lists, as it leaves them
 pub record Given (R L : Type 0) : Type 0 where
   pub answer : R
   pub row : List ℕ
@@ -105,6 +113,14 @@ given r row s = record { answer = r; row = row; lent = s }
 -- a call that may change the record: its answer as numbers, and the record as a row
 abbrev pub crossed : {A R L : Type 0} → (Said A → R) → Out A L → Given R L
 crossed f o = given (f (o .said)) (recordRow (o .rec)) (o .lent)
+
+-- a load: its answer and place, the record as a row, and all five lists
+abbrev pub readC : Reading → Given CLoaded Lists
+readC r = given (loadedC (r .said) (r .at)) (recordRow (r .rec)) (r .lists)
+
+-- a save: the length, and the slice that was lent for the file
+abbrev pub writtenC : Saving → Given CNumber NoLists
+writtenC r = given (numberC (r .said)) (r .file) noLists
 
 -- a call that takes a checkpoint: a refusal leaves the checkpoint's row as it was
 abbrev pub takenC : {K : Type 0} → (K → List ℕ) → List ℕ → Said K → Given CAnswer NoLists

@@ -1,4 +1,4 @@
-// The answers that cross to C: no enum crosses. On a refusal every value is 0; where a call is accepted, node is nil if it made none.
+// The answers that cross to C: no enum crosses. On a refusal every value is 0, but for the place in CLoaded; where a call is accepted, node is nil if it made none.
 
 // A number; yes is 1 and no is 0.
 #[repr(C)]
@@ -70,4 +70,12 @@ pub struct CRestored {
     pub code: u32,
     pub node: u32,
     pub outcome: u32,
+}
+
+// The root of a program file, and where reading came to; on a refusal, where the item at fault starts.
+#[repr(C)]
+pub struct CLoaded {
+    pub code: u32,
+    pub node: u32,
+    pub at: usize,
 }

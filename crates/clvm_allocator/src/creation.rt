@@ -2,17 +2,15 @@
 // and the lent lists as the call leaves them.
 use super::answers::CAnswer;
 use super::crossing;
-use super::rows;
 use creates::atom;
 use creates::ghosts;
-use creates::pair;
 use creates::substr;
 ghost use mathlib.Core.Path.{_≡_};
 ghost use Rattle.rules.specs.Said.{noLists};
 ghost use Rattle.rules.specs.State.{store, atomSlots, pairSlots};
 ghost use Rattle.rules.specs.Creates.{newAtom, newSmallNumber, newU64, newI64, newPair, addGhostPair, removeGhostPair, addGhostAtom, newSubstr, newConcat};
 ghost use Rattle.clvm_allocator.specs.Answers.{given, crossed, answerC, doneC};
-ghost use Rattle.clvm_allocator.specs.Rows.{recordOf};
+ghost use Rattle.rows.specs.Rows.{recordOf};
 
 #[no_mangle]
 pub extern "C" fn clvm_new_atom(
@@ -24,9 +22,7 @@ pub extern "C" fn clvm_new_atom(
 ) -> CAnswer
     ensures { λ r. ⌜ given r (now (a .exit)) (store (now (bytes .exit)) (atomSlots (now (starts .exit)) (now (ends .exit)))) ≡ crossed answerC (newAtom (recordOf (now (a .entry))) (now (v .entry)) (store (now (bytes .entry)) (atomSlots (now (starts .entry)) (now (ends .entry))))) ⌝ }
 {
-    let made = atom::new_atom(rows::record(a), bytes, starts, ends, v);
-    let answer = made.answer;
-    *a = rows::of_record(made.state);
+    let answer = rows::new_atom(a, bytes, starts, ends, v);
     crossing::of_answer(answer)
 }
 
@@ -81,9 +77,7 @@ pub extern "C" fn clvm_new_pair(
 ) -> CAnswer
     ensures { λ r. ⌜ given r (now (a .exit)) (pairSlots (now (firsts .exit)) (now (rests .exit))) ≡ crossed answerC (newPair (recordOf (now (a .entry))) first rest (pairSlots (now (firsts .entry)) (now (rests .entry)))) ⌝ }
 {
-    let made = pair::new_pair(rows::record(a), firsts, rests, first, rest);
-    let answer = made.answer;
-    *a = rows::of_record(made.state);
+    let answer = rows::new_pair(a, firsts, rests, first, rest);
     crossing::of_answer(answer)
 }
 

@@ -1,6 +1,7 @@
 // What each enum of the rules becomes as it crosses to C.
 use super::answers::CAnswer;
 use super::answers::CChildren;
+use super::answers::CLoaded;
 use super::answers::CNumber;
 use super::answers::COption;
 use super::answers::CPart;
@@ -23,30 +24,7 @@ use rules::Verdict;
 ghost use mathlib.Core.Path.{_≡_};
 ghost use Rattle.rules.specs.Said.{says, refuses, saysOf, done};
 ghost use Rattle.rules.specs.Paper.{codeNumber, numberPaper, truthPaper, objectTypePaper, fitsPaper, smallNumberPaper, visitorPaper, sexpPaper, statusPaper, answerPaper, verdictPaper, maybePaper};
-ghost use Rattle.clvm_allocator.specs.Answers.{bit, kindNumber, numberC, optionC, visitedC, childrenC, partAt, partC, standing, statusC, answerC, doneC, went, restoredC};
-
-// The number of a code in document 01's table: the only place of this crate that knows them.
-pub fn number_of(code: Code) -> u32
-    ensures { λ r. ⌜ r ≡ codeNumber code ⌝ }
-{
-    match code {
-        Code::Unsound => 1,
-        Code::OutOfMemory => 2,
-        Code::TooManyAtoms => 3,
-        Code::TooManyPairs => 4,
-        Code::NotValid => 5,
-        Code::ExpectedAtom => 6,
-        Code::StartOutOfBounds => 7,
-        Code::EndOutOfBounds => 8,
-        Code::InvalidBounds => 9,
-        Code::InvalidSize => 10,
-        Code::NotUsable => 11,
-        Code::InvalidRange => 12,
-        Code::TooLarge => 13,
-        Code::TooFewGhosts => 14,
-        Code::Full => 15,
-    }
-}
+ghost use Rattle.clvm_allocator.specs.Answers.{bit, kindNumber, numberC, optionC, visitedC, childrenC, partAt, partC, standing, statusC, answerC, loadedC, doneC, went, restoredC};
 
 // Numbers, truths and kinds are one struct.
 fn accepted(value: usize) -> CNumber
@@ -63,7 +41,7 @@ fn refused(code: Code, node: u32) -> CNumber
     ensures { λ r. ⌜ r ≡ numberC (refuses (codeNumber code) node) ⌝ }
 {
     CNumber {
-        code: number_of(code),
+        code: node::code::number_of(code),
         node,
         value: 0,
     }
@@ -116,7 +94,7 @@ pub fn of_small(found: SmallNumber) -> COption
             value: 0,
         },
         SmallNumber::Refused(code, node) => COption {
-            code: number_of(code),
+            code: node::code::number_of(code),
             node,
             some: 0,
             value: 0,
@@ -160,7 +138,7 @@ pub fn of_visitor(found: NodeVisitor) -> CVisited
             second: 0,
         },
         NodeVisitor::Refused(code, node) => CVisited {
-            code: number_of(code),
+            code: node::code::number_of(code),
             node,
             kind: 0,
             first: 0,
@@ -188,7 +166,7 @@ pub fn of_sexp(found: SExp) -> CChildren
             rest: 0,
         },
         SExp::Refused(code, node) => CChildren {
-            code: number_of(code),
+            code: node::code::number_of(code),
             node,
             is_pair: 0,
             first: 0,
@@ -217,7 +195,7 @@ pub fn of_status(found: NodeStatus) -> CStatus
         NodeStatus::AfterNewBytes => standing_of(1, 0, 0),
         NodeStatus::AfterOldBytes(start, end) => standing_of(2, start, end),
         NodeStatus::Refused(code, node) => CStatus {
-            code: number_of(code),
+            code: node::code::number_of(code),
             node,
             status: 0,
             start: 0,
@@ -242,7 +220,7 @@ pub fn no_part(code: Code, node: u32) -> CPart
     ensures { λ r. ⌜ r ≡ partC (refuses (codeNumber code) node) ⌝ }
 {
     CPart {
-        code: number_of(code),
+        code: node::code::number_of(code),
         node,
         place: 0,
         offset: 0,
@@ -257,9 +235,21 @@ pub fn of_answer(found: Answer) -> CAnswer
     match found {
         Answer::Node(node) => CAnswer { code: 0, node },
         Answer::Refused(code, node) => CAnswer {
-            code: number_of(code),
+            code: node::code::number_of(code),
             node,
         },
+    }
+}
+
+// The root of a file and where reading came to, or the refusal and its place.
+pub fn of_loaded(found: Answer, at: usize) -> CLoaded
+    ensures { λ r. ⌜ r ≡ loadedC (answerPaper found) at ⌝ }
+{
+    let told = of_answer(found);
+    CLoaded {
+        code: told.code,
+        node: told.node,
+        at,
     }
 }
 
@@ -277,7 +267,7 @@ pub fn not_done(code: Code, node: u32) -> CAnswer
     ensures { λ r. ⌜ r ≡ doneC (refuses (codeNumber code) node) ⌝ }
 {
     CAnswer {
-        code: number_of(code),
+        code: node::code::number_of(code),
         node,
     }
 }
@@ -309,7 +299,7 @@ pub fn of_maybe(found: MaybeRestore) -> CRestored
         MaybeRestore::Replace(node) => outcome(node, 1),
         MaybeRestore::Aborted => outcome(node::NIL, 2),
         MaybeRestore::Refused(code, node) => CRestored {
-            code: number_of(code),
+            code: node::code::number_of(code),
             node,
             outcome: 0,
         },

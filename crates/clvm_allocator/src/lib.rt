@@ -4,7 +4,7 @@ pub mod answers;
 pub mod bits;
 pub mod creation;
 pub mod crossing;
+pub mod files;
 pub mod lookup;
 pub mod record;
 pub mod restoring;
-pub mod rows;

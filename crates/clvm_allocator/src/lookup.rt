@@ -6,7 +6,6 @@ use super::answers::CPart;
 use super::answers::CStatus;
 use super::answers::CVisited;
 use super::crossing;
-use super::rows;
 use reads::eq;
 use reads::part;
 use rules::Atom;
@@ -16,7 +15,7 @@ ghost use Rattle.rules.specs.Said.{saysOf};
 ghost use Rattle.rules.specs.State.{store, atomSlots, pairSlots};
 ghost use Rattle.rules.specs.Reads.{atom as atomRule, scratchAfter, atomLen, smallNumber, atomEq, node as nodeRule, sexp as sexpRule, nodeStatus};
 ghost use Rattle.clvm_allocator.specs.Answers.{bit, numberC, optionC, visitedC, childrenC, partC, statusC};
-ghost use Rattle.clvm_allocator.specs.Rows.{recordOf, countsOf};
+ghost use Rattle.rows.specs.Rows.{recordOf, countsOf};
 
 #[no_mangle]
 pub extern "C" fn clvm_node(

@@ -2,7 +2,6 @@
 use super::answers::CAnswer;
 use super::answers::CNumber;
 use super::crossing;
-use super::rows;
 use rules::Marked;
 use rules::Taken;
 ghost use mathlib.Core.Path.{_≡_};
@@ -11,7 +10,7 @@ ghost use Rattle.rules.specs.State.{atomSlots, pairSlots, lists, wellFormed};
 ghost use Rattle.rules.specs.Reads.{atomCount, allocatedAtomCount, pairCount, allocatedPairCount, heapSize, allocatedHeapSize, checkpoint as checkpointRule, transparentCheckpoint};
 ghost use Rattle.rules.specs.Creates.{newLimited};
 ghost use Rattle.clvm_allocator.specs.Answers.{bit, numberC, doneC, given, crossed, takenC};
-ghost use Rattle.clvm_allocator.specs.Rows.{recordOf, plainRow, countsRow};
+ghost use Rattle.rows.specs.Rows.{recordOf, plainRow, countsRow};
 
 #[no_mangle]
 pub extern "C" fn clvm_new_limited(a: &mut [usize; 7], limit: usize) -> CAnswer

@@ -2,13 +2,12 @@
 use super::answers::CAnswer;
 use super::answers::CRestored;
 use super::crossing;
-use super::rows;
 ghost use mathlib.Core.Path.{_≡_};
 ghost use Rattle.rules.specs.Said.{noLists};
 ghost use Rattle.rules.specs.State.{store, atomSlots, pairSlots};
 ghost use Rattle.rules.specs.Restores.{restorePlain, restoreTransparent, maybeRestore};
 ghost use Rattle.clvm_allocator.specs.Answers.{given, crossed, doneC, restoredC};
-ghost use Rattle.clvm_allocator.specs.Rows.{recordOf, plainOf, countsOf};
+ghost use Rattle.rows.specs.Rows.{recordOf, plainOf, countsOf};
 
 #[no_mangle]
 pub extern "C" fn clvm_restore_checkpoint(

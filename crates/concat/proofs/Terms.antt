@@ -6,7 +6,7 @@ use native.Mathlib.Numerals.{add-one}
 use native.Mathlib.Omega.{arith}
 use borrow.Rule.Slice.PartMut.{putMid}
 use lib.ListN.{length, take, drop, getD, length-append, drop-of-length-le}
-use lib.Seq.{slice, drop-cons, length-slice, drop-append-le, take-at}
+use lib.Seq.{slice, drop-cons, length-slice}
 use Rattle.rules.specs.declared.Allocator.{Allocator}
 use Rattle.rules.specs.Small.{be, lenFor, smallBytes}
 use Rattle.rules.specs.Said.{Said, says, refuses}
@@ -14,7 +14,7 @@ use Rattle.rules.specs.State.{AtomSlots, Store, over}
 use Rattle.rules.specs.Reads.{Atom, range, value, atomOf}
 use Rattle.rules.specs.Creates.{termBytes, joined}
 use Rattle.rules.proofs.Args.{AtomIn, atom-in}
-use Rattle.rules.proofs.Smalls.{length-be, be-low, small-length}
+use Rattle.rules.proofs.Smalls.{length-be}
 use Rattle.rules.proofs.Overs.{tail-over, over-none, take-over, length-over, over-over, slice-same}
 
 -- a term's bytes are the same in lists whose used bytes are the same
@@ -42,17 +42,6 @@ pub value-room : (a : Allocator) (t : AtomSlots) (n : ℕ) (b : List ℕ) (at v 
 value-room a t n b at v e h =
     let k : at + length (smallBytes v) ≤ length b = subst (λ (r : Said Atom). at + length (termBytes b r) ≤ length b) e h in
     (atom-in a t n (value v) e, omega (arith, length-be (lenFor v) v))
-
--- the last bytes of four are a small atom's
-pub small-part : (v : ℕ) (old : List ℕ) → v < 67108864 → take (4 - (4 - lenFor v)) (drop (4 - lenFor v) (be 4 v ++ old)) ≡ smallBytes v
-small-part v old h =
-    let m = small-length v h in
-    let k : ℕ = 4 - lenFor v in
-    let e : 4 ≡ k + lenFor v = omega arith in
-    let l : drop k (be 4 v) ≡ be (lenFor v) v = ap (λ (j : ℕ). drop k (be j v)) e ∙ be-low (lenFor v) k v in
-    let n : 4 - k ≡ lenFor v = omega arith in
-    ap (take (4 - k)) (drop-append-le k (be 4 v) old (omega (arith, length-be 4 v)) ∙ ap (λ (x : List ℕ). x ++ old) l)
-    ∙ take-at (be (lenFor v) v) old (4 - k) (length-be (lenFor v) v ∙ sym n)
 
 -- what copying those bytes into the lent tail leaves of the list
 pub tail-small : (l part e : List ℕ) (v at : ℕ) → part ≡ smallBytes v → at + lenFor v ≤ length l

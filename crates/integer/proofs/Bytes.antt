@@ -1,27 +1,20 @@
 -- Laws of big-endian bytes as numbers, unsigned. Assumes nothing.
 use mathlib.Core.Path.{_≡_, refl, sym, ap, _∙_, subst}
 use mathlib.Core.List.{List, [], _∷_}
-use Prim.Native.Nat.{ℕ, zero, suc, _+_, _*_, _/_, _%_, _^_, _≤_, _<_}
-use native.Mathlib.Nat.{pow-succ', pow-le-pow-right, one-le-pow, suc-inj}
+use Prim.Native.Nat.{ℕ, suc, _+_, _*_, _/_, _%_, _^_, _≤_, _<_}
+use native.Mathlib.Nat.{pow-le-pow-right, suc-inj}
 use native.Mathlib.Omega.{arith}
-use lib.Arith.{digits-lt, digits-div, digits-mod}
+use lib.Arith.{digits-div, digits-mod}
 use lib.Dec.{lit<}
 use lib.ListN.{length}
 use Rattle.rules.specs.Small.{big, be, Octets}
+use Rattle.rules.proofs.Bytes.{big-lt}
 use Rattle.rules.proofs.Smalls.{length-be, be-octets, be-value}
-
-pub pos256 : (k : ℕ) → zero < 256 ^ k
-pos256 k = one-le-pow k 256 (lit< tt)
 
 pub mono256 : {i j : ℕ} → i ≤ j → 256 ^ i ≤ 256 ^ j
 mono256 h = pow-le-pow-right (lit< tt) h
 
 -- ---- bytes of one length are told apart by their number
-
-pub big-lt : (l : List ℕ) → Octets l → big l < 256 ^ length l
-unfolding big
-big-lt [] o = lit< tt
-big-lt (b ∷ l) o = rw (pow-succ' 256 (length l)) (digits-lt (o 0) (big-lt l (λ i. o (suc i))))
 
 pub same-big : (k l : List ℕ) → Octets k → Octets l → length k ≡ length l → big k ≡ big l → k ≡ l
 unfolding big

@@ -15,7 +15,8 @@ use Rattle.rules.specs.Small.{big, be, Octets}
 use Rattle.rules.specs.Integer.{signed, twos, residue, countOf, intBytes, Shortest}
 use Rattle.rules.proofs.Tests.{choice}
 use Rattle.rules.proofs.Smalls.{length-be, be-octets, be-value}
-use Rattle.integer.proofs.Bytes.{pos256, big-lt, same-big}
+use Rattle.rules.proofs.Bytes.{pos256, big-lt}
+use Rattle.integer.proofs.Bytes.{same-big}
 use Rattle.integer.proofs.Count.{count-holds, count-least, count-neg, count-zero}
 
 -- ---- a number below the range, and what it means

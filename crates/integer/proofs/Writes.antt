@@ -13,7 +13,8 @@ use mir.Val.{SFits, ofZ}
 use Rattle.rules.specs.Small.{be}
 use Rattle.rules.specs.Integer.{countOf, intBytes}
 use Rattle.integer.specs.Written.{Written}
-use Rattle.integer.proofs.Bytes.{pos256, same-be}
+use Rattle.rules.proofs.Bytes.{pos256}
+use Rattle.integer.proofs.Bytes.{same-be}
 use Rattle.integer.proofs.Count.{count-le, count-holds, count-least}
 use Rattle.integer.proofs.Shortest.{length-int, shortest-bytes}
 

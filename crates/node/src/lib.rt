@@ -1,4 +1,6 @@
-// The bits of a node, small atoms, and the big-endian bytes of a number.
+// The bits of a node, small atoms, the big-endian bytes of a number, and the numbers of the codes.
+pub mod code;
+
 use rules::Code;
 use rules::Fits;
 use rules::Number;

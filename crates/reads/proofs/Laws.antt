@@ -11,7 +11,7 @@ use lib.ListN.{length, getD, take, drop, length-drop, drop-of-length-le, take-ap
 use lib.Seq.{drop-cons, drop-drop, take-all}
 use borrow.Author.Tests.{eq-eqb, ne-eqb, eqb-true}
 use Rattle.rules.specs.declared.Allocator.{Allocator}
-use Rattle.rules.specs.Small.{fits, lenFor, be, smallBytes, Octets}
+use Rattle.rules.specs.Small.{fits, be, smallBytes, Octets}
 use Rattle.rules.specs.Said.{Said, says, refuses, saysOf}
 use Rattle.rules.specs.Node.{nil}
 use Rattle.rules.specs.State.{AtomSlots, Store, storeSound}
@@ -20,7 +20,7 @@ use Rattle.rules.proofs.Tests.{both}
 use Rattle.rules.proofs.Needs.{need-ind}
 use Rattle.rules.proofs.Sound.{store-lent}
 use Rattle.rules.proofs.Args.{AtomIn, atom-in}
-use Rattle.rules.proofs.Smalls.{fits-value, fits-bytes, bytes-fit, small-length, length-be, be-low}
+use Rattle.rules.proofs.Smalls.{fits-value, fits-bytes, bytes-fit, length-be, last-bytes}
 use Rattle.reads.specs.Parts.{Inside}
 
 -- ---- sameBytes is equality
@@ -159,13 +159,6 @@ whole-scratch v scratch h = rw (drop-of-length-le scratch {i = 4} (omega arith),
 -- a part up to the end of a slice, as the code takes it
 pub part-tail : (k : ℕ) (l : List ℕ) → take (length l - k) (drop k l) ≡ drop k l
 part-tail k l = take-all (length l - k) (drop k l) (simp length-drop (omega arith))
-
--- the last bytes of a scratch that holds a small value are the value's
-last-bytes : (v : ℕ) → v < 67108864 → drop (4 - lenFor v) (be 4 v) ≡ smallBytes v
-last-bytes v h =
-    let l = small-length v h in
-    let e : 4 ≡ (4 - lenFor v) + lenFor v = omega arith in
-    ap (λ (k : ℕ). drop (4 - lenFor v) (be k v)) e ∙ be-low (lenFor v) (4 - lenFor v) v
 
 -- filling the scratch leaves its length, so that the second call answers as the first
 pub fill-length : (a : Allocator) (s : Store) (n : ℕ) (scratch : List ℕ) → length (scratchAfter (atom a s n (length scratch)) scratch) ≡ length scratch

@@ -11,7 +11,6 @@ use clvm_allocator::creation;
 use clvm_allocator::lookup;
 use clvm_allocator::record;
 use clvm_allocator::restoring;
-use clvm_allocator::rows;
 use rules::Allocator;
 ghost use Prim.Native.Nat.{_≤_, _^_};
 ghost use lib.ListN.{length};

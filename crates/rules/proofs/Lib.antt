@@ -5,6 +5,7 @@ pub mod Alls
 pub mod Limits
 pub mod Sound
 pub mod Args
+pub mod Bytes
 pub mod Smalls
 pub mod Lists
 pub mod Cases

@@ -1,18 +1,19 @@
 -- Laws of small atoms: a byte string that fits is read back from its value, the value has 26 bits, and every such value's bytes fit.
 -- Assumes nothing.
 use Prim.Native.Nat.{ℕ, zero, suc, _+_, _-_, _*_, _/_, _%_, _^_, _≤_, _<_}
-use mathlib.Core.Path.{_≡_, refl, sym, ap, ap₂, _∙_}
+use mathlib.Core.Path.{_≡_, refl, sym, ap, _∙_}
 use mathlib.Core.Bool.{Bool, true, false, cond, _&&_, _||_, false≢true}
-use mathlib.Core.List.{List, [], _∷_}
+use mathlib.Core.List.{List, [], _∷_, _++_}
 use mathlib.Core.Option.{none, some}
 use native.Mathlib.Decide.{decLt}
 use native.Mathlib.Nat.{zero-add, suc-add, mod-one, mod-eq-of-lt, one-le-pow, pow-succ'}
 use native.Mathlib.Omega.{arith}
 use lib.Arith.{mod-mul}
 use lib.Dec.{ltb, eqb, lit<}
-use lib.ListN.{length, getD, drop}
-use lib.Seq.{slice, take-length}
+use lib.ListN.{length, getD, take, drop}
+use lib.Seq.{slice, take-length, drop-append-le, take-at}
 use borrow.Author.Tests.{lt-ltb, le-ltb, lt-leb, eq-eqb, ne-eqb, ltb-false, leb-false}
+use Rattle.rules.proofs.Bytes.{be-big}
 use Rattle.rules.specs.Small.{big, be, unfit, fits, lenFor, smallBytes, Octets}
 
 -- ---- the low bytes of a number
@@ -43,22 +44,9 @@ be-value (suc n) v =
     ∙ sym (mod-mul v {m = 256} {c = 256 ^ n} (lit< tt) (one-le-pow n 256 (lit< tt)))
     ∙ ap (λ (k : ℕ). v % k) (sym (pow-succ' 256 n))
 
-cons : {a b : ℕ} {l r : List ℕ} → a ≡ b → l ≡ r → a ∷ l ≡ b ∷ r
-cons p q = ap₂ _∷_ p q
-
--- the bytes of what at most four bytes write are those bytes
-digits : (l : List ℕ) → Octets l → length l ≤ 4 → be (length l) (big l) ≡ l
-unfolding be big
-digits [] o h = refl
-digits (a ∷ []) o h = let oa : a < 256 = o 0 in cons (omega arith) refl
-digits (a ∷ b ∷ []) o h = let oa : a < 256 = o 0 in let ob : b < 256 = o 1 in cons (omega arith) (cons (omega arith) refl)
-digits (a ∷ b ∷ c ∷ []) o h =
-    let oa : a < 256 = o 0 in let ob : b < 256 = o 1 in let oc : c < 256 = o 2 in
-    cons (omega arith) (cons (omega arith) (cons (omega arith) refl))
-digits (a ∷ b ∷ c ∷ d ∷ []) o h =
-    let oa : a < 256 = o 0 in let ob : b < 256 = o 1 in let oc : c < 256 = o 2 in let od : d < 256 = o 3 in
-    cons (omega arith) (cons (omega arith) (cons (omega arith) (cons (omega arith) refl)))
-digits (a ∷ b ∷ c ∷ d ∷ e ∷ l) o h = absurd (omega arith)
+-- the bytes of what bytes write are those bytes
+digits : (l : List ℕ) → Octets l → be (length l) (big l) ≡ l
+digits l o = let z : 0 * 256 ^ length l + big l ≡ big l = omega arith in rw z at (be-big l o 0)
 
 -- ---- how many bytes a value takes
 
@@ -164,7 +152,7 @@ small (x ∷ r) v o e = read (unfit (x ∷ r)) refl (rw (ne-eqb (suc (length r))
         rw (← z) (record {
           bits = n .0;
           long = n .1;
-          bytes = rw (n .1) (digits (x ∷ r) o (f .short));
+          bytes = rw (n .1) (digits (x ∷ r) o);
         })
 
 pub fits-value : (l : List ℕ) (v : ℕ) → Octets l → fits l ≡ some v → v < 67108864
@@ -224,3 +212,20 @@ part-short v a e h g q = elim (decLt 3 (e - a)) [
         let k : slice a e (smallBytes v) ≡ smallBytes v = rw p (slice-all (smallBytes v) e (r ∙ sym (length-be (lenFor v) v))) in
         let f = bytes-fit v h in
         let z : _≡_ {A = ℕ} 0 1 = cc in absurd (omega arith)
+
+-- ---- the last bytes of four that hold a small value are the value's
+
+pub last-bytes : (v : ℕ) → v < 67108864 → drop (4 - lenFor v) (be 4 v) ≡ smallBytes v
+last-bytes v h =
+    let l = small-length v h in
+    let e : 4 ≡ (4 - lenFor v) + lenFor v = omega arith in
+    ap (λ (k : ℕ). drop (4 - lenFor v) (be k v)) e ∙ be-low (lenFor v) (4 - lenFor v) v
+
+-- the same of a part of a list that begins with the four
+pub last-part : (v : ℕ) (old : List ℕ) → v < 67108864 → take (4 - (4 - lenFor v)) (drop (4 - lenFor v) (be 4 v ++ old)) ≡ smallBytes v
+last-part v old h =
+    let m = small-length v h in
+    let k : ℕ = 4 - lenFor v in
+    let n : 4 - k ≡ lenFor v = omega arith in
+    ap (take (4 - k)) (drop-append-le k (be 4 v) old (omega (arith, length-be 4 v)) ∙ ap (λ (x : List ℕ). x ++ old) (last-bytes v h))
+    ∙ take-at (be (lenFor v) v) old (4 - k) (length-be (lenFor v) v ∙ sym n)

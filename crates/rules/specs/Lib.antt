@@ -1,4 +1,4 @@
--- Document 01 as definitions.
+-- Documents 01 and 02 as definitions.
 pub mod Node
 pub mod Small
 pub mod Integer
@@ -8,4 +8,7 @@ pub mod Reads
 pub mod Creates
 pub mod Restores
 pub mod Tree
+pub mod Serial
+pub mod Load
+pub mod Save
 pub mod Paper

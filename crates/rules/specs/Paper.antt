@@ -7,6 +7,7 @@ use Rattle.rules.specs.declared.Checkpoint.{Checkpoint}
 use Rattle.rules.specs.declared.Made.{Made}
 use Rattle.rules.specs.declared.Changed.{Changed}
 use Rattle.rules.specs.declared.Restored.{Restored}
+use Rattle.rules.specs.declared.Loaded.{Loaded}
 use Rattle.rules.specs.declared.Code.{Code}
 use Rattle.rules.specs.declared.Code.the-variants as Code
 use Rattle.rules.specs.declared.Verdict.{Verdict}
@@ -45,12 +46,13 @@ use Rattle.rules.specs.declared.MaybeRestore.{MaybeRestore}
 use Rattle.rules.specs.declared.MaybeRestore.the-variants as MaybeRestore
 use Rattle.rules.specs.Node.{Node, pairAt, bytesAt, small, bad}
 use Rattle.rules.specs.Said.{Said, says, refuses, Done, done, NoLists, noLists, Out}
-use Rattle.rules.specs.State.{Store}
+use Rattle.rules.specs.State.{Store, Lists}
 use Rattle.rules.specs.Reads as Reads
 use Rattle.rules.specs.Reads.{Kind, pairKind, bytesKind, smallKind, pairArg, bytesArg, smallArg, range, value, Visited, buffer, number, children, Sexp, atomic, branch, Status, before, afterNewBytes, afterOldBytes}
 use Rattle.rules.specs.Restores.{Restoring, noReplace, replace, aborted}
+use Rattle.rules.specs.Load.{Reading, reading}
 
--- the numbers of document 01's table
+-- the numbers of document 01's table, and of document 02's refusals
 abbrev pub codeNumber : Code → ℕ
 codeNumber Code.Unsound = 1
 codeNumber Code.OutOfMemory = 2
@@ -67,6 +69,9 @@ codeNumber Code.InvalidRange = 12
 codeNumber Code.TooLarge = 13
 codeNumber Code.TooFewGhosts = 14
 codeNumber Code.Full = 15
+codeNumber Code.BadEncoding = 17
+codeNumber Code.TooDeep = 18
+codeNumber Code.NoSpace = 19
 
 -- done, or refused
 abbrev pub verdictPaper : Verdict → Said Done
@@ -179,3 +184,6 @@ changed r = record { said = verdictPaper (r .verdict); rec = r .state; lent = no
 
 abbrev pub restored : Restored → Store → Out Restoring Store
 restored r s = record { said = maybePaper (r .answer); rec = r .state; lent = s }
+
+abbrev pub loaded : Loaded → Lists → Reading
+loaded r l = reading (answerPaper (r .answer)) (r .at) (r .state) l

@@ -41,6 +41,10 @@ pub enum Code {
     TooLarge,
     TooFewGhosts,
     Full,
+    // 16 is the request program's own. These are document 02's.
+    BadEncoding,
+    TooDeep,
+    NoSpace,
 }
 
 // A call that answers nothing but whether it was done: the code, and the node that goes with it.
@@ -167,5 +171,12 @@ pub struct Changed {
 
 pub struct Restored {
     pub answer: MaybeRestore,
+    pub state: Allocator,
+}
+
+// What reading a file comes to: the node, and where in the file the next item starts; or a code, and where the item at fault starts.
+pub struct Loaded {
+    pub answer: Answer,
+    pub at: usize,
     pub state: Allocator,
 }

@@ -22,7 +22,7 @@ use Rattle.runs.specs.State.{St}
 use Rattle.runs.specs.Wf.{Valid, ValidIn, SlotOk, WF}
 use Rattle.runs.specs.Makes.{shown, AtomIn}
 use Rattle.runs.proofs.Tests.{slot→}
-use Rattle.runs.proofs.Lists.{octets-slice}
+use Rattle.rules.proofs.Bytes.{octets-slice}
 
 -- why a node is no atom: 5, 1 or 6
 pub data NoAtom (a : Allocator) (t : AtomSlots) (n : ℕ) : ℕ → ℕ → Type 0 where

@@ -30,7 +30,7 @@ use Rattle.runs.proofs.Atoms.{NoAtom, not-valid, bad-slot, a-pair, Atom
 use Rattle.runs.proofs.Joining.{scanned, given}
 
 -- one test of a call
-why : {A B L : Type 0} (R : ℕ → ℕ → Type 0) (b : Bool) (code node : ℕ) (next : Said A) (a : Allocator) (l : L) (f : A → Out B L)
+pub why : {A B L : Type 0} (R : ℕ → ℕ → Type 0) (b : Bool) (code node : ℕ) (next : Said A) (a : Allocator) (l : L) (f : A → Out B L)
     → (b ≡ false → R code node) → (b ≡ true → RefusedBy R (settle next a l f .said)) → RefusedBy R (settle (need b code node next) a l f .said)
 why R b code node next a l f = need-ind (λ r. RefusedBy R (settle r a l f .said)) b code node next
 
@@ -44,7 +44,7 @@ as-well : {A B : Type 0} (R : ℕ → ℕ → Type 0) (f : A → B) (r : Said A)
 as-well R f (says x) p = tt
 as-well R f (refuses code node) p = p
 
-weaker : {A : Type 0} (R Q : ℕ → ℕ → Type 0) (r : Said A) → ((code node : ℕ) → R code node → Q code node) → RefusedBy R r → RefusedBy Q r
+pub weaker : {A : Type 0} (R Q : ℕ → ℕ → Type 0) (r : Said A) → ((code node : ℕ) → R code node → Q code node) → RefusedBy R r → RefusedBy Q r
 weaker R Q (says x) f p = tt
 weaker R Q (refuses code node) f p = f code node p
 

@@ -17,7 +17,7 @@ use Rattle.runs.specs.State.{St, storeOf, onStore, newConcat}
 use Rattle.runs.specs.Wf.{WF}
 use Rattle.runs.specs.Makes as M
 use Rattle.runs.specs.Makes.{accepted, ghostly, stored, AllAtoms, JoinGiven, MakesJoin, bytesOf, shownAll}
-use Rattle.runs.proofs.Lists.{octets-++}
+use Rattle.rules.proofs.Bytes.{octets-++}
 use Rattle.runs.proofs.Growing.{grown, on, on-refl, ghosts-grown}
 use Rattle.runs.proofs.Guards.{guard, under}
 use Rattle.runs.proofs.Atoms.{AtomIs, no-atom, in-store, itself, atom-is, Found, found, atom-in}

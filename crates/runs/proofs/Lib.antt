@@ -20,7 +20,10 @@ pub mod Restoring
 pub mod Refusals
 pub mod Checked
 pub mod Live
+pub mod Untouched
+pub mod Loads
 pub mod Rows
 pub mod Runs
+pub mod LoadRuns
 pub mod Example
 pub mod Promises

@@ -10,6 +10,7 @@ use native.Mathlib.Nat.{zero-add, suc-add}
 use lib.Seq.{slice, take-at, drop-at, take-nil, take-take, drop-drop, length-take-le, getD-set-same, getD-set-other}
 use Rattle.rules.specs.Small.{Octets}
 use Rattle.rules.specs.State.{over}
+use Rattle.rules.proofs.Bytes.{octets-++, octets-take, octets-drop}
 
 -- two lists written at n: what holds of each entry below n, and of the new one, holds of each below n + 1
 pub set₂-ind : (P : ℕ → ℕ → ℕ → Type 0) (l l′ : List ℕ) (n x y i : ℕ) → n < length l → n < length l′ → i < n + 1
@@ -36,25 +37,6 @@ slice-over l i v h =
     ∙ drop-at (take i l) v i (length-take-le i l h)
 
 -- ---- bytes are bytes
-
-pub octets-++ : (a b : List ℕ) → Octets a → Octets b → Octets (a ++ b)
-octets-++ [] b f g i = g i
-octets-++ (x ∷ xs) b f g zero = f zero
-octets-++ (x ∷ xs) b f g (suc i) = octets-++ xs b (λ j. f (suc j)) g i
-
-pub octets-take : (n : ℕ) (l : List ℕ) → Octets l → Octets (take n l)
-octets-take zero l f i = omega arith
-octets-take (suc n) [] f i = f i
-octets-take (suc n) (x ∷ xs) f zero = f zero
-octets-take (suc n) (x ∷ xs) f (suc i) = octets-take n xs (λ j. f (suc j)) i
-
-pub octets-drop : (n : ℕ) (l : List ℕ) → Octets l → Octets (drop n l)
-octets-drop zero l f i = f i
-octets-drop (suc n) [] f i = f i
-octets-drop (suc n) (x ∷ xs) f i = octets-drop n xs (λ j. f (suc j)) i
-
-pub octets-slice : (a e : ℕ) (l : List ℕ) → Octets l → Octets (slice a e l)
-octets-slice a e l f = octets-drop a (take e l) (octets-take e l f)
 
 pub octets-over : (l : List ℕ) (i : ℕ) (v : List ℕ) → Octets l → Octets v → Octets (over l i v)
 octets-over l i v f g =

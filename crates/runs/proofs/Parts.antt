@@ -23,7 +23,8 @@ use Rattle.runs.specs.State.{St, Whole, storeOf, onStore, newSubstr}
 use Rattle.runs.specs.Wf.{WF}
 use Rattle.runs.specs.Makes as M
 use Rattle.runs.specs.Makes.{accepted, shared, fitted, parted, PartGiven, MakesPart}
-use Rattle.runs.proofs.Lists.{octets-slice, slice-slice}
+use Rattle.rules.proofs.Bytes.{octets-slice}
+use Rattle.runs.proofs.Lists.{slice-slice}
 use Rattle.runs.proofs.Extend.{ext-refl, from-any, from-within}
 use Rattle.runs.proofs.Growing.{Grown, grown, on-refl, grown-on, withAtom, atom-grown}
 use Rattle.runs.proofs.Reading.{view-bytes, small-bits}

@@ -10,6 +10,7 @@ use Rattle.rules.specs.declared.Checkpoint.{Checkpoint}
 use Rattle.rules.specs.declared.Made.{Made}
 use Rattle.rules.specs.declared.Changed.{Changed}
 use Rattle.rules.specs.declared.Restored.{Restored}
+use Rattle.rules.specs.declared.Loaded.{Loaded}
 use Rattle.rules.specs.Small.{Octets}
 use Rattle.rules.specs.Said.{Said, saysOf, Done, NoLists, noLists, Out}
 use Rattle.rules.specs.State.{Lists, lists, Store, PairSlots}
@@ -17,8 +18,10 @@ use Rattle.rules.specs.Reads.{checkpointOf}
 use Rattle.rules.specs.Creates as C
 use Rattle.rules.specs.Restores as R
 use Rattle.rules.specs.Restores.{Restoring, noReplace}
-use Rattle.rules.specs.Paper.{verdictPaper, maybePaper, made, changed, restored}
-use Rattle.runs.specs.State.{St, storeOf, alone, onPairs, onStore, Making, atom, small-number, u64, i64, pair, substr, concat, ghost-pairs, fewer-ghost-pairs, ghost-atoms, Way, plainly, transparently, withNode}
+use Rattle.rules.specs.Load as L
+use Rattle.rules.specs.Load.{Reading}
+use Rattle.rules.specs.Paper.{verdictPaper, maybePaper, made, changed, restored, loaded}
+use Rattle.runs.specs.State.{St, storeOf, alone, onPairs, onStore, left, Making, atom, small-number, u64, i64, pair, substr, concat, ghost-pairs, fewer-ghost-pairs, ghost-atoms, Way, plainly, transparently, withNode}
 use Rattle.runs.specs.Runs as Run
 use Rattle.runs.specs.Runs.{Event, LiveAt, noted, Past}
 
@@ -82,6 +85,12 @@ module _ {s : St} {h : List Event} (run : Past s h) where
 
   pub add-ghost-atom-code : (amount : ℕ) (r : Changed) → changed r ≡ C.addGhostAtom (s .rec) amount → Past (afterAlone s (r .state)) h
   add-ghost-atom-code amount r e = by-alone s (changed r) _ e (Run.made run (ghost-atoms amount))
+
+  -- ---- a program file
+
+  pub load-code : (f : List ℕ) → Octets f → (r : Loaded) (l : Lists) → loaded r l ≡ L.load f (s .rec) (s .lists)
+      → Past (record { rec = r .state; lists = l }) h
+  load-code f o r l e = subst (λ (q : Reading). Past (left q .next) h) (sym e) (Run.loaded run f o)
 
   -- ---- the restores: to the checkpoint that was taken in k, as the call handed it out then
 

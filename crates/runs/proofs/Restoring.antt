@@ -18,7 +18,7 @@ use Rattle.runs.specs.Makes as M
 use Rattle.runs.specs.Makes.{Outcome, accepted, MakesAtom}
 use Rattle.runs.specs.Back.{Totals, KeepsTotals}
 use Rattle.runs.proofs.Tests.{Usable, usable→}
-use Rattle.runs.proofs.Lists.{octets-slice}
+use Rattle.rules.proofs.Bytes.{octets-slice}
 use Rattle.runs.proofs.Growing.{withAtom, atom-shape}
 use Rattle.runs.proofs.Guards.{guard-alone, outcome-says}
 use Rattle.runs.proofs.Making.{atom-makes}

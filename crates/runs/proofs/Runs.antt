@@ -15,7 +15,7 @@ use Rattle.rules.specs.Restores.{Restoring, noReplace, replace, aborted}
 use Rattle.rules.proofs.Tests.{choice}
 use Rattle.runs.specs.State.{St, Whole, Making, make, Way, plainly, transparently, withNode, nodeless, restore}
 use Rattle.runs.specs.Wf.{WF, On}
-use Rattle.runs.specs.Runs.{Event, took, went, count, LiveAt, just-taken, past-take, past-restore, noted, Past, fresh, made, read, taken, back, longer, MaybeIs, little, invalid, before, later-pair, old-bytes, too-long, over-limit, new-small, new-bytes, Kept, Demand3}
+use Rattle.runs.specs.Runs.{Event, took, went, count, LiveAt, just-taken, past-take, past-restore, noted, Past, fresh, made, read, taken, back, loaded, longer, MaybeIs, little, invalid, before, later-pair, old-bytes, too-long, over-limit, new-small, new-bytes, Kept, Demand3}
 use Rattle.runs.proofs.Tests.{→limits, valid-mono}
 use Rattle.runs.proofs.Growing.{on-refl, on-trans, longer-on}
 use Rattle.runs.proofs.Reading.{tree-same}
@@ -23,6 +23,7 @@ use Rattle.runs.proofs.Answers.{same-answers}
 use Rattle.runs.proofs.ByCalls.{reads-same}
 use Rattle.runs.proofs.Every.{make-on}
 use Rattle.runs.proofs.Checked.{Checked, wf-checked, fresh-wf}
+use Rattle.runs.proofs.Loads.{load-on}
 use Rattle.runs.proofs.Live.{After, refused-one, aborted-one, kept-one, replaced-one, transparent-on, transparent-eq, transparent-is, plain-on, plain-eq, plain-is, maybe-both}
 
 -- ---- the live checkpoints of a history, newest first, each with its number and the state in which it was taken
@@ -131,6 +132,7 @@ chain (fresh limit l o) = end (fresh-wf limit l o)
 chain (made r m) = let c = chain r in grow c (make-on (wf-of c) m)
 chain (read r) = chain r
 chain (taken r) = let c = chain r in over c (on-refl (wf-of c))
+chain (loaded r f o) = let c = chain r in grow c (load-on (wf-of c) f o)
 chain (longer r l o e room) = let c = chain r in grow c (longer-on (wf-of c) o e room)
 chain (back {h = h} {c = b} r way l) = let c = chain r in let p = reach (falls h) c (live-in l) in return b h c p (after way (p .wf) (p .on))
 

@@ -3,6 +3,7 @@ pub mod State
 pub mod Wf
 pub mod Makes
 pub mod Causes
+pub mod Loads
 pub mod ByCalls
 pub mod Back
 pub mod Runs

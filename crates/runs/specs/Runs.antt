@@ -12,7 +12,7 @@ use Rattle.rules.specs.State.{Lists, startAt, endAt, heap}
 use Rattle.rules.specs.Creates.{newLimited}
 use Rattle.rules.specs.Restores.{Restoring, noReplace, replace, aborted}
 use Rattle.rules.specs.Tree.{Tree, tree}
-use Rattle.runs.specs.State.{St, Whole, Making, make, plain, transparent, maybe, Way, restore}
+use Rattle.runs.specs.State.{St, Whole, Making, make, load, plain, transparent, maybe, Way, restore}
 use Rattle.runs.specs.Wf.{ValidIn, Same, Room}
 use Rattle.runs.specs.ByCalls.{ReadsAs, SameAnswers}
 use Rattle.runs.specs.Back.{Totals}
@@ -55,6 +55,8 @@ pub data Past : St → List Event → Type 0 where
   taken : {s : St} {h : List Event} → Past s h → Past s (took s ∷ h)
   back : {s k : St} {h : List Event} {c : ℕ} → Past s h → (way : Way) → LiveAt c k h
       → Past (restore way k s .next) (noted (restore way k s .said) c h)
+  -- a run may load a program file (document 02, W1)
+  loaded : {s : St} {h : List Event} → Past s h → (f : List ℕ) → Octets f → Past (load f s .next) h
   -- beyond the demand's words, for a host whose slots grow: it goes on with longer ones that hold the same used contents
   longer : {s : St} {h : List Event} → Past s h → (l : Lists) → Octets (l .bytes) → Same s l → Room l (s .lists)
       → Past (record { rec = s .rec; lists = l }) h

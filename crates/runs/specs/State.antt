@@ -15,6 +15,8 @@ use Rattle.rules.specs.Reads.{checkpointOf}
 use Rattle.rules.specs.Creates as C
 use Rattle.rules.specs.Restores as R
 use Rattle.rules.specs.Restores.{Restoring, noReplace}
+use Rattle.rules.specs.Load as L
+use Rattle.rules.specs.Load.{Reading}
 
 pub record St : Type 0 where
   pub rec : Allocator
@@ -115,6 +117,15 @@ call (ghost-atoms amount) s = answersNone (addGhostAtom amount s)
 -- the state that it leaves
 abbrev pub make : Making → St → St
 make m s = call m s .next
+
+-- ---- loading a program file
+
+-- what a reading says, and the state that it leaves
+abbrev pub left : Reading → Whole ℕ
+left r = record { said = r .said; next = record { rec = r .rec; lists = r .lists } }
+
+abbrev pub load : List ℕ → St → Whole ℕ
+load f s = left (L.load f (s .rec) (s .lists))
 
 -- ---- the three restores, to any checkpoint
 

@@ -45,23 +45,7 @@ pub struct Did {
 fn number(code: Code) -> usize
     ensures { λ r. ⌜ r ≡ codeNumber code ⌝ }
 {
-    match code {
-        Code::Unsound => 1,
-        Code::OutOfMemory => 2,
-        Code::TooManyAtoms => 3,
-        Code::TooManyPairs => 4,
-        Code::NotValid => 5,
-        Code::ExpectedAtom => 6,
-        Code::StartOutOfBounds => 7,
-        Code::EndOutOfBounds => 8,
-        Code::InvalidBounds => 9,
-        Code::InvalidSize => 10,
-        Code::NotUsable => 11,
-        Code::InvalidRange => 12,
-        Code::TooLarge => 13,
-        Code::TooFewGhosts => 14,
-        Code::Full => 15,
-    }
+    node::code::number_of(code) as usize
 }
 
 // Before the first record.

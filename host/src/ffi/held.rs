@@ -380,4 +380,47 @@ impl Held {
             )
         }
     }
+
+    #[inline(always)]
+    pub fn load(&mut self, file: &[u8]) -> Loaded {
+        unsafe {
+            clvm_load(
+                &mut self.record,
+                self.bytes.as_mut_ptr(),
+                self.bytes.len(),
+                self.starts.as_mut_ptr(),
+                self.starts.len(),
+                self.ends.as_mut_ptr(),
+                self.ends.len(),
+                self.firsts.as_mut_ptr(),
+                self.firsts.len(),
+                self.rests.as_mut_ptr(),
+                self.rests.len(),
+                file.as_ptr(),
+                file.len(),
+            )
+        }
+    }
+
+    #[inline(always)]
+    pub fn save(&self, n: u32, file: &mut [u8]) -> Number {
+        unsafe {
+            clvm_save(
+                &self.record,
+                self.bytes.as_ptr(),
+                self.bytes.len(),
+                self.starts.as_ptr(),
+                self.starts.len(),
+                self.ends.as_ptr(),
+                self.ends.len(),
+                self.firsts.as_ptr(),
+                self.firsts.len(),
+                self.rests.as_ptr(),
+                self.rests.len(),
+                n,
+                file.as_mut_ptr(),
+                file.len(),
+            )
+        }
+    }
 }

@@ -2,7 +2,7 @@
 use mathlib.Core.Path.{sym, ap, ap₂, _∙_}
 use Rattle.rules.specs.Said.{noLists}
 use Rattle.rules.specs.Paper.{markedPaper}
-use Rattle.clvm_allocator.specs.Rows.{countsRow}
+use Rattle.rows.specs.Rows.{countsRow}
 use Rattle.clvm_allocator.specs.Answers.{given, takenC}
 use borrow.Author.Needs.{needs}
 use Rattle.clvm_allocator.proofs.record.clvm_transparent_checkpoint.Statement.{statement}

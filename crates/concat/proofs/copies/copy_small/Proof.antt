@@ -1,5 +1,6 @@
 -- `concat::copies::copy_small` meets its contract. Assumes nothing.
-use Rattle.concat.proofs.Terms.{small-part, tail-small}
+use Rattle.rules.proofs.Smalls.{last-part}
+use Rattle.concat.proofs.Terms.{tail-small}
 use Rattle.rules.specs.Small.{smallBytes}
 use lib.ListN.{take, drop}
 use mathlib.Core.Path.{_≡_}
@@ -54,7 +55,7 @@ returns c =
     let a = c .before .before .before .before .before .before .before .before .before .before .before .args in
     let from = 4 - c .before .before .before .before .before .before .len-for-value .result in
     let buf = c .before .before .before .before .before .before .before .before .put-be .last .0 in
-    let s : take (4 - from) (drop from buf) ≡ smallBytes (a .v) = simp (c .before .before .before .before .before .before .len-for-value .ensures, c .before .before .before .before .before .before .before .before .put-be .ensures) (small-part (a .v) _ (c .before .before .before .before .before .before .before .before .before .before .before .pre .0)) in
+    let s : take (4 - from) (drop from buf) ≡ smallBytes (a .v) = simp (c .before .before .before .before .before .before .len-for-value .ensures, c .before .before .before .before .before .before .before .before .put-be .ensures) (last-part (a .v) _ (c .before .before .before .before .before .before .before .before .before .before .before .pre .0)) in
     (tail-small (a .bytes .now) (take (4 - from) (drop from buf)) (c .before .before .copy .last .1 .0) (a .v) (a .at) s (c .before .before .before .before .before .before .before .before .before .before .before .pre .1) (c .before .before .copy .ensures .1), simp (c .before .before .before .before .before .before .len-for-value .ensures))
 
 pub copy-small-spec : {M : Type 1} → statement M

@@ -1,4 +1,4 @@
--- The record and the checkpoints as a host keeps them: numbers in a row, in the order of the header's structs. A row has as many
+-- The record and the checkpoints as numbers in a row, in the order of the C header's structs. A row has as many
 -- numbers as its type says, so that no default is ever read.
 use Prim.Native.Nat.{ℕ}
 use mathlib.Core.List.{List, [], _∷_}
@@ -6,6 +6,7 @@ use lib.ListN.{getD}
 use Rattle.rules.specs.declared.Counts.{Counts}
 use Rattle.rules.specs.declared.Allocator.{Allocator}
 use Rattle.rules.specs.declared.Checkpoint.{Checkpoint}
+use Rattle.rules.specs.Said.{Said, Out}
 use Rattle.rules.specs.State.{counts}
 
 -- atoms, pairs, bytes
@@ -30,3 +31,17 @@ plainRow k = k .used .atoms ∷ k .used .pairs ∷ k .used .bytes ∷ k .ghosts 
 
 abbrev pub recordRow : Allocator → List ℕ
 recordRow a = a .used .atoms ∷ a .used .pairs ∷ a .used .bytes ∷ a .ghosts .atoms ∷ a .ghosts .pairs ∷ a .ghosts .bytes ∷ a .limit ∷ []
+
+-- ---- a call on the record in a row
+
+-- its answer, the row, and the lists that it was lent, as it leaves them
+pub record RowOut (L : Type 0) : Type 0 where
+  pub said : Said ℕ
+  pub row : List ℕ
+  pub lent : L
+
+abbrev pub rowOut : {L : Type 0} → Said ℕ → List ℕ → L → RowOut L
+rowOut said row s = record { said = said; row = row; lent = s }
+
+abbrev pub rowed : {L : Type 0} → Out ℕ L → RowOut L
+rowed o = rowOut (o .said) (recordRow (o .rec)) (o .lent)

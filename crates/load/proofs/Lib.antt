@@ -1,0 +1,3 @@
+-- The laws that the reader's proofs cite.
+pub mod Readings
+pub mod Tokens

@@ -1,0 +1,85 @@
+-- `load` meets its contract. Assumes nothing.
+use Prim.Native.Nat.{ℕ}
+use mathlib.Core.Path.{sym, ap, _∙_}
+use mathlib.Core.List.{List}
+use denote.Ref.{now}
+use lib.ListN.{length}
+use Rattle.rules.specs.declared.Allocator.{Allocator}
+use Rattle.rules.specs.State.{lists, atomSlots, pairSlots}
+use Rattle.rules.specs.Load.{Reading, item, atEnd, orBack, levelsOf}
+use Rattle.rows.specs.Rows.{recordOf}
+use Rattle.load.specs.Readings.{readItem}
+use Rattle.load.proofs.Readings.{load-sound, load-unsound}
+use borrow.Author.Needs.{needs}
+use Rattle.load.proofs.load.Statement.{statement}
+use Rattle.load.proofs.load.Tie as tie
+
+lists-sound-requires : tie.Need-lists-sound-requires
+lists-sound-requires c κs = search needs
+
+of-record-requires : tie.Need-of-record-requires
+of-record-requires c κs = search needs
+
+item-requires : tie.Need-item-requires
+item-requires c κs = search needs
+
+record-requires : tie.Need-record-requires
+record-requires c κs = search needs
+
+settled-requires : tie.Need-settled-requires
+settled-requires c κs = search needs
+
+same-length : tie.Need-same-length
+same-length c = search needs
+
+same-length-2 : tie.Need-same-length-2
+same-length-2 c = search needs
+
+same-length-3 : tie.Need-same-length-3
+same-length-3 c = search needs
+
+same-length-4 : tie.Need-same-length-4
+same-length-4 c = search needs
+
+same-length-5 : tie.Need-same-length-5
+same-length-5 c = search needs
+
+returns : tie.Need-returns
+returns c =
+    let a = c .before .before .before .before .before .before .before .before .before .before .before .before .before .before .before .before .before .before .before .before .before .before .before .before .before .before .before .before .before .args in
+    let l = lists (now (a .bytes)) (atomSlots (now (a .starts)) (now (a .ends))) (pairSlots (now (a .firsts)) (now (a .rests))) in
+    let i = c .before .before .before .before .before .before .before .before .before .before .before .before .before .item in
+    let q = i .last .1 .1 .1 .1 in
+    let m = lists (q .0) (atomSlots (q .1 .0) (q .1 .1 .0)) (pairSlots (q .1 .1 .1 .0) (q .1 .1 .1 .1 .0)) in
+    c .settled .ensures m
+    ∙ ap (λ (b : Allocator). orBack (a .a) (atEnd (length (now (a .f))) (readItem (i .result) b m))) (c .before .«record» .ensures)
+    ∙ ap (λ (r : Reading). orBack (a .a) (atEnd (length (now (a .f))) r))
+    (i .ensures ∙ ap (λ (row : List ℕ). item (now (a .f)) levelsOf 0 (recordOf row) l) (c .before .before .before .before .before .before .before .before .before .before .before .before .before .before .before .before .before .before .before .before .of-record .ensures))
+    ∙ load-sound (now (a .f)) (a .a) l (sym (c .before .before .before .before .before .before .before .before .before .before .before .before .before .before .before .before .before .before .before .before .before .before .lists-sound .ensures) ∙ c .before .before .before .before .before .before .before .before .before .before .before .before .before .before .before .before .before .before .before .before .before .if1 .taken)
+
+refused-requires : tie.Need-refused-requires
+refused-requires c κs = search needs
+
+returns-2 : tie.Need-returns-2
+returns-2 c =
+    let a = c .before .before .before .before .before .before .before .before .before .args in
+    let l = lists (now (a .bytes)) (atomSlots (now (a .starts)) (now (a .ends))) (pairSlots (now (a .firsts)) (now (a .rests))) in
+    c .refused .ensures l ∙ load-unsound (now (a .f)) (a .a) l (sym (c .before .before .lists-sound .ensures) ∙ c .before .if1 .left)
+
+pub load-spec : {M : Type 1} → statement M
+load-spec =
+    tie.close
+    (tie.spec
+    lists-sound-requires
+    of-record-requires
+    item-requires
+    record-requires
+    settled-requires
+    same-length
+    same-length-2
+    same-length-3
+    same-length-4
+    same-length-5
+    returns
+    refused-requires
+    returns-2)

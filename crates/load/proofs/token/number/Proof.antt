@@ -1,0 +1,74 @@
+-- `token::number` meets its contract: the digits read so far, put before the rest, write the same number. Assumes nothing.
+use Prim.Native.Nat.{_+_, _*_, _-_, _^_, _≤_, _<_}
+use mathlib.Core.Path.{_≡_, _∙_}
+use mathlib.Core.List.{_∷_}
+use native.Mathlib.Omega.{arith}
+use borrow.Author.Needs.{needs}
+use lib.ListN.{length, drop, getD, drop-of-length-le}
+use Rattle.rules.specs.Small.{big}
+use Rattle.node.proofs.Laws.{big-step, big-bits}
+use Rattle.load.proofs.Tokens.{number-none, number-room}
+use Rattle.load.proofs.token.number.Statement.{statement}
+use Rattle.load.proofs.token.number.Tie as tie
+
+abbrev Inv-loop : tie.InvT-loop
+Inv-loop first more n₀ i₀ n i =
+    (i ≤ length more) × (n < 256 ^ (i + 1)) × (n * 256 ^ length (drop i more) + big (drop i more) ≡ big (first ∷ more))
+
+abbrev μ-loop : tie.MeasureT-loop
+μ-loop first more n₀ i₀ n i = length more - i
+
+loop-holds : tie.Need-loop-holds Inv-loop μ-loop
+loop-holds c = (omega arith, omega arith, number-none (c .args .first) (c .args .more .now))
+
+mul-n : tie.Need-mul-n Inv-loop μ-loop
+mul-n c = omega (arith, number-room (c .before .loop .i) (omega arith))
+
+shared-slice-read-n : tie.Need-shared-slice-read-n Inv-loop μ-loop
+shared-slice-read-n c = search needs
+
+cast-n : tie.Need-cast-n Inv-loop μ-loop
+cast-n c = omega (arith, c .shared-slice-known .given (c .before .before .loop .i))
+
+add-n : tie.Need-add-n Inv-loop μ-loop
+add-n c =
+    let i = c .before .before .loop .i in
+    omega (arith, c .shared-slice-known .given i, number-room i (omega arith))
+
+add-i : tie.Need-add-i Inv-loop μ-loop
+add-i c = search needs
+
+loop-less : tie.Need-loop-less Inv-loop μ-loop
+loop-less c = search needs
+
+loop-again : tie.Need-loop-again Inv-loop μ-loop
+loop-again c =
+    let v = c .before .before .before .args .more .now in
+    let l = c .before .before .loop in (
+      omega arith,
+      big-bits (l .n) (getD v (l .i) 0) (l .i + 1) (l .inv .1) (omega (arith, c .shared-slice-known .given (l .i))),
+      big-step v (l .n) (l .i) (omega arith) ∙ l .inv .2,
+    )
+
+returns : tie.Need-returns Inv-loop μ-loop
+unfolding big
+returns c =
+    let v = c .before .before .args .more .now in
+    let i = c .before .loop .i in
+    omega (arith, rw (drop-of-length-le v {i = i} (omega arith)) at (c .before .loop .inv .2))
+
+pub number-spec : {M : Type 1} → statement M
+number-spec =
+    tie.close
+    (tie.spec
+    Inv-loop
+    μ-loop
+    loop-holds
+    mul-n
+    shared-slice-read-n
+    cast-n
+    add-n
+    add-i
+    loop-less
+    loop-again
+    returns)

@@ -1,0 +1,2 @@
+-- What loading a file comes to.
+pub mod Files

@@ -1,0 +1,1 @@
+// Theorems about what a load makes of a file: no code stands here.

@@ -1,0 +1,20 @@
+-- `limit` meets its contract: the column 1 of the row. Assumes nothing.
+use Prim.Native.Nat.{ℕ}
+use mathlib.Core.Path.{ap}
+use mathlib.Core.List.{List}
+use lib.ListN.{getD}
+use borrow.Author.Needs.{needs}
+use Rattle.prefix.proofs.limit.Statement.{statement}
+use Rattle.prefix.proofs.limit.Tie as tie
+
+row-requires : tie.Need-row-requires
+row-requires c κs = search needs
+
+array-read-result : tie.Need-array-read-result
+array-read-result c = search needs
+
+returns : tie.Need-returns
+returns c = ap (λ (r : List ℕ). getD r 1 0) (c .row .ensures)
+
+pub limit-spec : {M : Type 1} → statement M
+limit-spec = tie.close (tie.spec row-requires array-read-result returns)

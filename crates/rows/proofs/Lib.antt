@@ -1,0 +1,2 @@
+-- The law of calls on a row.
+pub mod Rowed

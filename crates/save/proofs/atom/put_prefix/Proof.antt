@@ -1,0 +1,86 @@
+-- `save::atom::put_prefix` meets its contract. Assumes nothing.
+use Prim.Native.Nat.{_+_, _≤_}
+use native.Mathlib.Omega.{arith}
+use lib.ListN.{length}
+use Rattle.save.proofs.Prefixes.{Marks, mark-fits, byte-fits, marked}
+use borrow.Author.Needs.{needs}
+use Rattle.save.proofs.atom.put_prefix.Statement.{statement}
+use Rattle.save.proofs.atom.put_prefix.Tie as tie
+
+room : (c : tie.After-mark) → c .before .before .before .before .before .before .before .before .args .at + (1 + c .before .before .before .before .before .before .extra-for .result) ≤ length (c .before .before .before .before .before .before .before .before .args .file .now)
+room c = omega (arith, c .before .before .before .before .before .before .extra-for .ensures .0, c .before .before .before .before .before .before .before .before .pre .1)
+
+fits : (c : tie.After-mark) → Marks (c .before .before .before .before .before .before .before .before .args .len) (c .before .before .before .before .before .before .extra-for .result)
+fits c = rw (c .before .before .before .before .before .before .extra-for .ensures .0) (mark-fits (c .before .before .before .before .before .before .before .before .args .len) (c .before .before .before .before .before .before .before .before .pre .0))
+
+extra-for-requires : tie.Need-extra-for-requires
+extra-for-requires c κs = search needs
+
+sub-put-be : tie.Need-sub-put-be
+sub-put-be c = search needs
+
+part-put-be-start : tie.Need-part-put-be-start
+part-put-be-start c = search needs
+
+part-put-be-end : tie.Need-part-put-be-end
+part-put-be-end c = search needs
+
+add-put-be : tie.Need-add-put-be
+add-put-be c = search needs
+
+put-be-requires : tie.Need-put-be-requires
+put-be-requires c κs = search needs
+
+slice-read-file : tie.Need-slice-read-file
+slice-read-file c = search needs
+
+mark-requires : tie.Need-mark-requires
+mark-requires c κs = search needs
+
+cast-file : tie.Need-cast-file
+cast-file c = omega (arith, fits c, c .mark .ensures)
+
+add-file : tie.Need-add-file
+add-file c =
+    let a = c .before .before .before .before .before .before .before .before .args in
+    omega (arith, byte-fits (a .file .now) (c .before .before .before .before .put-be .last .0) (a .at) (c .before .before .before .before .before .before .extra-for .result) (a .len) (c .mark .result) (room c) (c .before .before .before .before .put-be .ensures) (fits c) (c .mark .ensures))
+
+slice-write-file : tie.Need-slice-write-file
+slice-write-file c = search needs
+
+add-result : tie.Need-add-result
+add-result c = search needs
+
+add-result-2 : tie.Need-add-result-2
+add-result-2 c = search needs
+
+same-length : tie.Need-same-length
+same-length c = search needs
+
+returns : tie.Need-returns
+returns c =
+    let a = c .before .before .before .before .before .before .before .before .args in
+    let k = c .before .before .before .before .before .before .extra-for .ensures .0 in (
+      rw (← k) (marked (a .file .now) (c .before .before .before .before .put-be .last .0) (a .at) (c .before .before .before .before .before .before .extra-for .result) (a .len) (c .mark .result) (room c) (c .before .before .before .before .put-be .ensures) (fits c) (c .mark .ensures)),
+      omega (arith, k),
+    )
+
+pub put-prefix-spec : {M : Type 1} → statement M
+put-prefix-spec =
+    tie.close
+    (tie.spec
+    extra-for-requires
+    sub-put-be
+    part-put-be-start
+    part-put-be-end
+    add-put-be
+    put-be-requires
+    slice-read-file
+    mark-requires
+    cast-file
+    add-file
+    slice-write-file
+    add-result
+    add-result-2
+    same-length
+    returns)

@@ -1,0 +1,2 @@
+-- What is said of saved program files.
+pub mod Saves

@@ -1,0 +1,1 @@
+// Theorems about saved program files: no code stands here.

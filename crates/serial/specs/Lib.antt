@@ -1,0 +1,2 @@
+-- What is proved of the serialised form.
+pub mod Forms

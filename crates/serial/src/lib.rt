@@ -1,0 +1,1 @@
+// Theorems about the serialised form alone: no code stands here.
