@@ -4,6 +4,7 @@ use super::answers::CAnswer;
 use super::crossing;
 use creates::atom;
 use creates::ghosts;
+use creates::pair;
 use creates::substr;
 ghost use mathlib.Core.Path.{_≡_};
 ghost use Rattle.rules.specs.Said.{noLists};
@@ -77,7 +78,9 @@ pub extern "C" fn clvm_new_pair(
 ) -> CAnswer
     ensures { λ r. ⌜ given r (now (a .exit)) (pairSlots (now (firsts .exit)) (now (rests .exit))) ≡ crossed answerC (newPair (recordOf (now (a .entry))) first rest (pairSlots (now (firsts .entry)) (now (rests .entry)))) ⌝ }
 {
-    let answer = rows::new_pair(a, firsts, rests, first, rest);
+    let made = pair::new_pair(rows::record(a), firsts, rests, first, rest);
+    let answer = made.answer;
+    *a = rows::of_record(made.state);
     crossing::of_answer(answer)
 }
 

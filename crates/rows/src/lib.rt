@@ -96,8 +96,8 @@ pub fn of_counts(k: Counts) -> [usize; 3]
     [k.atoms, k.pairs, k.bytes]
 }
 
-// new_atom on the record in a row. For the C call and the reader of files alike: where it stands by itself, a level of the reader keeps
-// none of its numbers on the stack.
+// new_atom on the record in a row, for the C call and the reader of files alike: as a call of its own it leaves nothing on the stack of a
+// level of the reader.
 pub fn new_atom(
     row: &mut [usize; 7],
     bytes: &mut [u8],
