@@ -1,5 +1,5 @@
-//! The record with the slots beside it, and one function for each call that is lent them. All are inlined always: one call of
-//! the library is all that a call costs.
+//! The record with the lists beside it, and the table of the library's calls: it declares each of them, and gives [`Held`] the
+//! functions that make them. All of these are inlined always: one call of the library is all that a call costs.
 use super::*;
 
 /// All that an allocator holds. A slot that is not used holds anything.
@@ -13,414 +13,192 @@ pub struct Held {
     pub rests: Vec<u32>,
 }
 
-// SAFETY, of every call below: each pointer is that of a live slice and stands before that slice's own length; a slice that is
-// written is borrowed for writing, and so is a record: it is no part of anything else that is lent. The calls ask for nothing
-// else: they are proved to read and write within the lengths given, whatever the record, the nodes and the contents are, and
-// they keep no pointer.
 impl Held {
-    #[inline(always)]
-    pub fn atom_count(&self) -> Number {
-        clvm_atom_count(&self.record)
-    }
-
-    #[inline(always)]
-    pub fn allocated_atom_count(&self) -> Number {
-        clvm_allocated_atom_count(&self.record)
-    }
-
-    #[inline(always)]
-    pub fn pair_count(&self) -> Number {
-        clvm_pair_count(&self.record)
-    }
-
-    #[inline(always)]
-    pub fn allocated_pair_count(&self) -> Number {
-        clvm_allocated_pair_count(&self.record)
-    }
-
-    #[inline(always)]
-    pub fn heap_size(&self) -> Number {
-        clvm_heap_size(&self.record)
-    }
-
-    #[inline(always)]
-    pub fn allocated_heap_size(&self) -> Number {
-        clvm_allocated_heap_size(&self.record)
-    }
-
-    #[inline(always)]
-    pub fn checkpoint(&self, k: &mut Plain) -> Answer {
-        clvm_checkpoint_of(&self.record, k)
-    }
-
-    #[inline(always)]
-    pub fn transparent_checkpoint(&self, k: &mut Counts) -> Answer {
-        clvm_transparent_checkpoint(&self.record, k)
-    }
-
+    /// Whether the record and all used slots are sound. In C that is a number.
     #[inline(always)]
     pub fn well_formed(&self) -> bool {
-        let yes = unsafe {
-            clvm_well_formed(
-                &self.record,
-                self.bytes.as_ptr(),
-                self.bytes.len(),
-                self.starts.as_ptr(),
-                self.starts.len(),
-                self.ends.as_ptr(),
-                self.ends.len(),
-                self.firsts.as_ptr(),
-                self.firsts.len(),
-                self.rests.as_ptr(),
-                self.rests.len(),
-            )
-        };
-        yes == 1
+        self.sound() == 1
     }
+}
 
-    #[inline(always)]
-    pub fn node(&self, n: u32) -> Visited {
-        unsafe {
-            clvm_node(
-                &self.record,
-                self.starts.as_ptr(),
-                self.starts.len(),
-                self.ends.as_ptr(),
-                self.ends.len(),
-                self.firsts.as_ptr(),
-                self.firsts.len(),
-                self.rests.as_ptr(),
-                self.rests.len(),
-                n,
-            )
+// The table stands at the end of this file. It has one line for each call of include/clvm_allocator.h, with the arguments in
+// the same order:
+//
+//     clvm_new_atom as new_atom(&mut record, &mut store, v: &[u8]) -> Answer;
+//
+//     clvm_new_atom as new_atom   the call, and the function of `Held` that makes it; without `as`, the call is only declared
+//     &mut record, &mut store     what is lent of `Held`, the record or a group of lists: & for reading, &mut for writing
+//     v: &[u8]                    what the function is given besides: a value, a reference or a slice
+//     Answer                      what both answer
+//
+// In C a slice, and so each list, is two arguments: a pointer, and the length. From the line above come these two:
+//
+//     fn clvm_new_atom(&mut Record, *mut u8, usize, *mut u32, usize, *mut u32, usize, *const u8, usize) -> Answer;
+//     pub fn new_atom(&mut self, v: &[u8]) -> Answer
+macro_rules! calls {
+    ($($call:ident $(as $function:ident)? ($($argument:tt)*) -> $answer:ty;)*) => {
+        $(call! { [self [$call $(as $function)? -> $answer] [pub safe]] $($argument)*, })*
+    };
+}
+
+// One line of the table: in brackets what is known of it, then the arguments that are left. Each rule takes the first of these,
+// and adds to the brackets what becomes of it, `{ (GIVEN) PASSED => TYPE, .. }`: what the function is given for it, what the
+// function passes to the call, and which type that has in C. A slice also takes `pub safe` away. `self` is handed from rule to
+// rule, since one that a later rule writes anew would not be that of the method.
+//
+// SAFETY, of the declarations: they have the types of include/clvm_allocator.h, for which include/check.c stands. A call that
+// takes no slice may be made with anything: a reference is to a whole record or checkpoint, and one for writing is to nothing
+// else that is lent.
+//
+// SAFETY, of the calls that take a slice: each pointer is that of a live slice and stands before that slice's own length; a
+// slice that is written is borrowed for writing, and so is a record: it is no part of anything else that is lent. The calls ask
+// for nothing else: they are proved to read and write within the lengths given, whatever the record, the nodes and the contents
+// are, and they keep no pointer.
+macro_rules! call {
+    // Something of `Held`: how it is lent goes in brackets, so that the rules of the groups serve reading and writing.
+    ($line:tt &mut $held:ident, $($more:tt)*) => {
+        call! { $line [&mut] $held, $($more)* }
+    };
+    ($line:tt &$held:ident, $($more:tt)*) => {
+        call! { $line [&] $held, $($more)* }
+    };
+
+    // A group: its lists, and what they hold.
+    ($line:tt $lent:tt store, $($more:tt)*) => {
+        call! { $line $lent bytes: u8, $lent atoms, $($more)* }
+    };
+    ($line:tt $lent:tt atoms, $($more:tt)*) => {
+        call! { $line $lent starts: u32, $lent ends: u32, $($more)* }
+    };
+    ($line:tt $lent:tt pairs, $($more:tt)*) => {
+        call! { $line $lent firsts: u32, $lent rests: u32, $($more)* }
+    };
+
+    // The record, by which the function becomes a method.
+    ([$self:ident $call:tt $safe:tt $($done:tt)*] [$($lent:tt)*] record, $($more:tt)*) => {
+        call! {
+            [$self $call $safe $($done)*
+                { ($($lent)* $self,) $($lent)* $self.record => $($lent)* Record }]
+            $($more)*
         }
-    }
+    };
 
-    #[inline(always)]
-    pub fn sexp(&self, n: u32) -> Children {
-        unsafe {
-            clvm_sexp(
-                &self.record,
-                self.firsts.as_ptr(),
-                self.firsts.len(),
-                self.rests.as_ptr(),
-                self.rests.len(),
-                n,
-            )
+    // A list that is read, and one that is written.
+    ([$self:ident $call:tt $safe:tt $($done:tt)*] [&] $list:ident: $type:ty, $($more:tt)*) => {
+        call! {
+            [$self $call [] $($done)*
+                { () $self.$list.as_ptr() => *const $type, $self.$list.len() => usize }]
+            $($more)*
         }
-    }
-
-    #[inline(always)]
-    pub fn next(&self, n: u32) -> Children {
-        unsafe {
-            clvm_next(
-                &self.record,
-                self.firsts.as_ptr(),
-                self.firsts.len(),
-                self.rests.as_ptr(),
-                self.rests.len(),
-                n,
-            )
+    };
+    ([$self:ident $call:tt $safe:tt $($done:tt)*] [&mut] $list:ident: $type:ty, $($more:tt)*) => {
+        call! {
+            [$self $call [] $($done)*
+                { () $self.$list.as_mut_ptr() => *mut $type, $self.$list.len() => usize }]
+            $($more)*
         }
-    }
+    };
 
-    #[inline(always)]
-    pub fn atom(&self, scratch: &mut [u8], n: u32) -> Part {
-        unsafe {
-            clvm_atom(
-                &self.record,
-                self.bytes.as_ptr(),
-                self.bytes.len(),
-                self.starts.as_ptr(),
-                self.starts.len(),
-                self.ends.as_ptr(),
-                self.ends.len(),
-                scratch.as_mut_ptr(),
-                scratch.len(),
-                n,
-            )
+    // A slice besides that is read, and one that is written.
+    ([$self:ident $call:tt $safe:tt $($done:tt)*] $name:ident: &[$type:ty], $($more:tt)*) => {
+        call! {
+            [$self $call [] $($done)*
+                { ($name: &[$type],) $name.as_ptr() => *const $type, $name.len() => usize }]
+            $($more)*
         }
-    }
-
-    #[inline(always)]
-    pub fn atom_len(&self, n: u32) -> Number {
-        unsafe {
-            clvm_atom_len(
-                &self.record,
-                self.starts.as_ptr(),
-                self.starts.len(),
-                self.ends.as_ptr(),
-                self.ends.len(),
-                n,
-            )
+    };
+    ([$self:ident $call:tt $safe:tt $($done:tt)*] $name:ident: &mut [$type:ty], $($more:tt)*) => {
+        call! {
+            [$self $call [] $($done)*
+                { ($name: &mut [$type],) $name.as_mut_ptr() => *mut $type, $name.len() => usize }]
+            $($more)*
         }
-    }
+    };
 
-    #[inline(always)]
-    pub fn small_number(&self, n: u32) -> Optional {
-        unsafe {
-            clvm_small_number(
-                &self.record,
-                self.bytes.as_ptr(),
-                self.bytes.len(),
-                self.starts.as_ptr(),
-                self.starts.len(),
-                self.ends.as_ptr(),
-                self.ends.len(),
-                n,
-            )
+    // A value or a reference, which is passed as it is.
+    ([$self:ident $call:tt $safe:tt $($done:tt)*] $name:ident: $type:ty, $($more:tt)*) => {
+        call! {
+            [$self $call $safe $($done)*
+                { ($name: $type,) $name => $type }]
+            $($more)*
         }
-    }
+    };
 
-    #[inline(always)]
-    pub fn atom_eq(&self, lhs: u32, rhs: u32) -> Number {
-        unsafe {
-            clvm_atom_eq(
-                &self.record,
-                self.bytes.as_ptr(),
-                self.bytes.len(),
-                self.starts.as_ptr(),
-                self.starts.len(),
-                self.ends.as_ptr(),
-                self.ends.len(),
-                lhs,
-                rhs,
-            )
+    // No argument is left: the call is declared.
+    ([
+        $self:ident [$call:ident -> $answer:ty] [$($safe:tt)*]
+        $({ $given:tt $($passed:expr => $type:ty),* })*
+    ]) => {
+        unsafe extern "C" {
+            $($safe)* fn $call($($(_: $type,)*)*) -> $answer;
         }
-    }
+    };
+    // The same with a function that makes the call.
+    ([
+        $self:ident [$call:ident as $function:ident -> $answer:ty] $safe:tt
+        $({ ($($given:tt)*) $($passed:expr => $type:ty),* })*
+    ]) => {
+        call! { [$self [$call -> $answer] $safe $({ () $($passed => $type),* })*] }
 
-    #[inline(always)]
-    pub fn checkpoint_node_status(&self, k: &Counts, n: u32) -> Status {
-        unsafe {
-            clvm_checkpoint_node_status(
-                &self.record,
-                self.starts.as_ptr(),
-                self.starts.len(),
-                self.ends.as_ptr(),
-                self.ends.len(),
-                k,
-                n,
-            )
+        impl Held {
+            #[inline(always)]
+            #[allow(unused_unsafe)] // a call without a slice is safe
+            pub fn $function($($($given)*)*) -> $answer {
+                unsafe { $call($($($passed,)*)*) }
+            }
         }
-    }
+    };
+}
 
-    #[inline(always)]
-    pub fn new_atom(&mut self, v: &[u8]) -> Answer {
-        unsafe {
-            clvm_new_atom(
-                &mut self.record,
-                self.bytes.as_mut_ptr(),
-                self.bytes.len(),
-                self.starts.as_mut_ptr(),
-                self.starts.len(),
-                self.ends.as_mut_ptr(),
-                self.ends.len(),
-                v.as_ptr(),
-                v.len(),
-            )
-        }
-    }
+calls! {
+    // ---- the record
+    clvm_new_limited(a: &mut Record, limit: usize) -> Answer;
+    clvm_atom_count as atom_count(&record) -> Number;
+    clvm_allocated_atom_count as allocated_atom_count(&record) -> Number;
+    clvm_pair_count as pair_count(&record) -> Number;
+    clvm_allocated_pair_count as allocated_pair_count(&record) -> Number;
+    clvm_heap_size as heap_size(&record) -> Number;
+    clvm_allocated_heap_size as allocated_heap_size(&record) -> Number;
+    clvm_checkpoint_of as checkpoint(&record, k: &mut Plain) -> Answer;
+    clvm_transparent_checkpoint as transparent_checkpoint(&record, k: &mut Counts) -> Answer;
+    clvm_well_formed as sound(&record, &store, &pairs) -> u32;
 
-    #[inline(always)]
-    pub fn new_small_number(&mut self, v: u32) -> Answer {
-        clvm_new_small_number(&mut self.record, v)
-    }
+    // ---- a node's bits, and bytes alone
+    clvm_object_type(n: u32) -> Number;
+    clvm_index(n: u32) -> Number;
+    clvm_is_atom(n: u32) -> Number;
+    clvm_is_pair(n: u32) -> Number;
+    clvm_fits_in_small_atom as fits_in_small_atom(v: &[u8]) -> Optional;
+    clvm_len_for_value(v: u32) -> usize;
 
-    #[inline(always)]
-    pub fn new_u64(&mut self, x: u64) -> Answer {
-        unsafe {
-            clvm_new_u64(
-                &mut self.record,
-                self.bytes.as_mut_ptr(),
-                self.bytes.len(),
-                self.starts.as_mut_ptr(),
-                self.starts.len(),
-                self.ends.as_mut_ptr(),
-                self.ends.len(),
-                x,
-            )
-        }
-    }
+    // ---- reads
+    clvm_node as node(&record, &atoms, &pairs, n: u32) -> Visited;
+    clvm_sexp as sexp(&record, &pairs, n: u32) -> Children;
+    clvm_next as next(&record, &pairs, n: u32) -> Children;
+    clvm_atom as atom(&record, &store, scratch: &mut [u8], n: u32) -> Part;
+    clvm_atom_len as atom_len(&record, &atoms, n: u32) -> Number;
+    clvm_small_number as small_number(&record, &store, n: u32) -> Optional;
+    clvm_atom_eq as atom_eq(&record, &store, lhs: u32, rhs: u32) -> Number;
+    clvm_checkpoint_node_status as checkpoint_node_status(&record, &atoms, k: &Counts, n: u32) -> Status;
 
-    #[inline(always)]
-    pub fn new_i64(&mut self, x: i64) -> Answer {
-        unsafe {
-            clvm_new_i64(
-                &mut self.record,
-                self.bytes.as_mut_ptr(),
-                self.bytes.len(),
-                self.starts.as_mut_ptr(),
-                self.starts.len(),
-                self.ends.as_mut_ptr(),
-                self.ends.len(),
-                x,
-            )
-        }
-    }
+    // ---- creation
+    clvm_new_atom as new_atom(&mut record, &mut store, v: &[u8]) -> Answer;
+    clvm_new_small_number as new_small_number(&mut record, v: u32) -> Answer;
+    clvm_new_u64 as new_u64(&mut record, &mut store, x: u64) -> Answer;
+    clvm_new_i64 as new_i64(&mut record, &mut store, x: i64) -> Answer;
+    clvm_new_pair as new_pair(&mut record, &mut pairs, first: u32, rest: u32) -> Answer;
+    clvm_add_ghost_pair as add_ghost_pair(&mut record, amount: usize) -> Answer;
+    clvm_remove_ghost_pair as remove_ghost_pair(&mut record, amount: usize) -> Answer;
+    clvm_add_ghost_atom as add_ghost_atom(&mut record, amount: usize) -> Answer;
+    clvm_new_substr as new_substr(&mut record, &mut store, n: u32, start: u32, end: u32) -> Answer;
+    clvm_new_concat as new_concat(&mut record, &mut store, new_size: usize, nodes: &[u32]) -> Answer;
 
-    #[inline(always)]
-    pub fn new_pair(&mut self, first: u32, rest: u32) -> Answer {
-        unsafe {
-            clvm_new_pair(
-                &mut self.record,
-                self.firsts.as_mut_ptr(),
-                self.firsts.len(),
-                self.rests.as_mut_ptr(),
-                self.rests.len(),
-                first,
-                rest,
-            )
-        }
-    }
+    // ---- restores
+    clvm_restore_checkpoint as restore_checkpoint(&mut record, &atoms, &pairs, k: &Plain) -> Answer;
+    clvm_restore_transparent_checkpoint as restore_transparent_checkpoint(&mut record, &atoms, &pairs, k: &Counts) -> Answer;
+    clvm_maybe_restore_with_node as maybe_restore_with_node(&mut record, &mut store, &pairs, k: &Counts, n: u32) -> Restored;
 
-    #[inline(always)]
-    pub fn add_ghost_pair(&mut self, amount: usize) -> Answer {
-        clvm_add_ghost_pair(&mut self.record, amount)
-    }
-
-    #[inline(always)]
-    pub fn remove_ghost_pair(&mut self, amount: usize) -> Answer {
-        clvm_remove_ghost_pair(&mut self.record, amount)
-    }
-
-    #[inline(always)]
-    pub fn add_ghost_atom(&mut self, amount: usize) -> Answer {
-        clvm_add_ghost_atom(&mut self.record, amount)
-    }
-
-    #[inline(always)]
-    pub fn new_substr(&mut self, n: u32, start: u32, end: u32) -> Answer {
-        unsafe {
-            clvm_new_substr(
-                &mut self.record,
-                self.bytes.as_mut_ptr(),
-                self.bytes.len(),
-                self.starts.as_mut_ptr(),
-                self.starts.len(),
-                self.ends.as_mut_ptr(),
-                self.ends.len(),
-                n,
-                start,
-                end,
-            )
-        }
-    }
-
-    #[inline(always)]
-    pub fn new_concat(&mut self, new_size: usize, nodes: &[u32]) -> Answer {
-        unsafe {
-            clvm_new_concat(
-                &mut self.record,
-                self.bytes.as_mut_ptr(),
-                self.bytes.len(),
-                self.starts.as_mut_ptr(),
-                self.starts.len(),
-                self.ends.as_mut_ptr(),
-                self.ends.len(),
-                new_size,
-                nodes.as_ptr(),
-                nodes.len(),
-            )
-        }
-    }
-
-    #[inline(always)]
-    pub fn restore_checkpoint(&mut self, k: &Plain) -> Answer {
-        unsafe {
-            clvm_restore_checkpoint(
-                &mut self.record,
-                self.starts.as_ptr(),
-                self.starts.len(),
-                self.ends.as_ptr(),
-                self.ends.len(),
-                self.firsts.as_ptr(),
-                self.firsts.len(),
-                self.rests.as_ptr(),
-                self.rests.len(),
-                k,
-            )
-        }
-    }
-
-    #[inline(always)]
-    pub fn restore_transparent_checkpoint(&mut self, k: &Counts) -> Answer {
-        unsafe {
-            clvm_restore_transparent_checkpoint(
-                &mut self.record,
-                self.starts.as_ptr(),
-                self.starts.len(),
-                self.ends.as_ptr(),
-                self.ends.len(),
-                self.firsts.as_ptr(),
-                self.firsts.len(),
-                self.rests.as_ptr(),
-                self.rests.len(),
-                k,
-            )
-        }
-    }
-
-    #[inline(always)]
-    pub fn maybe_restore_with_node(&mut self, k: &Counts, n: u32) -> Restored {
-        unsafe {
-            clvm_maybe_restore_with_node(
-                &mut self.record,
-                self.bytes.as_mut_ptr(),
-                self.bytes.len(),
-                self.starts.as_mut_ptr(),
-                self.starts.len(),
-                self.ends.as_mut_ptr(),
-                self.ends.len(),
-                self.firsts.as_ptr(),
-                self.firsts.len(),
-                self.rests.as_ptr(),
-                self.rests.len(),
-                k,
-                n,
-            )
-        }
-    }
-
-    #[inline(always)]
-    pub fn load(&mut self, file: &[u8]) -> Loaded {
-        unsafe {
-            clvm_load(
-                &mut self.record,
-                self.bytes.as_mut_ptr(),
-                self.bytes.len(),
-                self.starts.as_mut_ptr(),
-                self.starts.len(),
-                self.ends.as_mut_ptr(),
-                self.ends.len(),
-                self.firsts.as_mut_ptr(),
-                self.firsts.len(),
-                self.rests.as_mut_ptr(),
-                self.rests.len(),
-                file.as_ptr(),
-                file.len(),
-            )
-        }
-    }
-
-    #[inline(always)]
-    pub fn save(&self, n: u32, file: &mut [u8]) -> Number {
-        unsafe {
-            clvm_save(
-                &self.record,
-                self.bytes.as_ptr(),
-                self.bytes.len(),
-                self.starts.as_ptr(),
-                self.starts.len(),
-                self.ends.as_ptr(),
-                self.ends.len(),
-                self.firsts.as_ptr(),
-                self.firsts.len(),
-                self.rests.as_ptr(),
-                self.rests.len(),
-                n,
-                file.as_mut_ptr(),
-                file.len(),
-            )
-        }
-    }
+    // ---- program files
+    clvm_load as load(&mut record, &mut store, &mut pairs, file: &[u8]) -> Loaded;
+    clvm_save as save(&record, &store, &pairs, n: u32, file: &mut [u8]) -> Number;
 }
