@@ -17,16 +17,24 @@ abbrev lent : tie.Start → Store
 lent c = store (c .args .bytes .now) (atomSlots (c .args .starts .now) (c .args .ends .now))
 
 -- the terms passed, and have the size in all
-passes : (c : tie.After-enum-told) → let s = c .before .before .before .before .before .before .before .before .before in scan (s .args .a) (lent s .atoms) (s .args .size) (s .args .nodes .now) 0 ≡ says done
-passes c = sym (c .before .before .measure .ensures) ∙ ap verdictPaper (c .enum-told .given .1)
+passes : (c : tie.After-enum-told) →
+    let s : tie.Start = search in
+    scan (s .args .a) (lent s .atoms) (s .args .size) (s .args .nodes .now) 0 ≡ says done
+passes c =
+    let measure : tie.After-measure = search in
+    sym (measure .measure .ensures) ∙ ap verdictPaper (c .enum-told .given .1)
 
-long : (c : tie.After-enum-told) → let s = c .before .before .before .before .before .before .before .before .before in length (joined (s .args .a) (lent s) (s .args .nodes .now)) ≡ s .args .size
+long : (c : tie.After-enum-told) →
+    let s : tie.Start = search in
+    length (joined (s .args .a) (lent s) (s .args .nodes .now)) ≡ s .args .size
 long c =
-    let s = c .before .before .before .before .before .before .before .before .before in
+    let s : tie.Start = search in
     scan-size (s .args .a) (lent s) (s .args .size) (s .args .nodes .now) (s .pre .bytes-fit) (passes c)
 
 measure-requires : tie.Need-measure-requires
-measure-requires c κs = omega (arith, c .before .before .before .before .before .before .pre)
+measure-requires c κs =
+    let start : tie.Start = search in
+    omega (arith, start .pre)
 
 enum-known-verdict : tie.Need-enum-known-verdict
 enum-known-verdict c = search needs
@@ -42,7 +50,8 @@ store-room-requires c κs = search needs
 
 put-joined-requires : tie.Need-put-joined-requires
 put-joined-requires c κs =
-    (c .before .before .before .before .before .before .before .before .before .before .before .before .before .before .pre, (sym (c .before .before .before .before .store-room .ensures) ∙ c .before .before .before .if1 .taken, long (c .before .before .before .before .before)))
+    let (start, store-room, then1) : tie.Start × tie.After-store-room × tie.Then1 = search in
+    (start .pre, (sym (store-room .store-room .ensures) ∙ then1 .if1 .taken, long (search)))
 
 same-length : tie.Need-same-length
 same-length c = search needs
@@ -55,10 +64,9 @@ same-length-3 c = search needs
 
 returns : tie.Need-returns
 returns c =
-    let t = c .before .before .before .before .before .before .before .before .before .before .before .before in
-    let s = t .before .before .before .before .before .before .before .before .before in
-    let r = sym (c .before .before .before .before .before .before .before .before .before .before .before .store-room .ensures) ∙ c .before .before .before .before .before .before .before .before .before .before .if1 .taken in
-    c .before .before .before .before .before .before .put-joined .ensures ∙ sym (all-put (s .args .a) (s .args .size) (s .args .nodes .now) (lent s) (passes t) (long t) r)
+    let (s, t, store-room, then1, put-joined) : tie.Start × tie.After-enum-told × tie.After-store-room × tie.Then1 × tie.After-put-joined = search in
+    let r = sym (store-room .store-room .ensures) ∙ then1 .if1 .taken in
+    put-joined .put-joined .ensures ∙ sym (all-put (s .args .a) (s .args .size) (s .args .nodes .now) (lent s) (passes t) (long t) r)
 
 refused-requires-2 : tie.Need-refused-requires-2
 refused-requires-2 c κs = search needs
@@ -70,7 +78,9 @@ same-length-5 : tie.Need-same-length-5
 same-length-5 c = search needs
 
 returns-2 : tie.Need-returns-2
-returns-2 c = refused-is _ _ _ _ _ (c .refused .ensures) ∙ simp (← (c .before .before .before .before .measure .ensures), c .before .before .verdict .given .1)
+returns-2 c =
+    let (measure, verdict) : tie.After-measure × tie.After-verdict = search in
+    refused-is _ _ _ _ _ (c .refused .ensures) ∙ simp (← (measure .measure .ensures), verdict .verdict .given .1)
 
 same-length-6 : tie.Need-same-length-6
 same-length-6 c = search needs
@@ -80,9 +90,8 @@ same-length-7 c = search needs
 
 returns-3 : tie.Need-returns-3
 returns-3 c =
-    let t = c .before .before .before in
-    let s = t .before .before .before .before .before .before .before .before .before in
-    let r = sym (c .before .before .store-room .ensures) ∙ c .before .if1 .left in
+    let (s, t, store-room, else1) : tie.Start × tie.After-enum-told × tie.After-store-room × tie.Else1 = search in
+    let r = sym (store-room .store-room .ensures) ∙ else1 .if1 .left in
     refused-is _ _ _ _ _ (c .refused2 .ensures) ∙ sym (all-full (s .args .a) (s .args .size) (s .args .nodes .now) (lent s) (passes t) (long t) r)
 
 pub concat-all-spec : {M : Type 1} → statement M

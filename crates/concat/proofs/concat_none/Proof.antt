@@ -12,14 +12,18 @@ ghost-atom-requires c κs = search needs
 
 returns : tie.Need-returns
 unfolding need
-returns c = λ s. simp (c .ghost-atom .ensures, c .before .if1 .taken)
+returns c =
+    let then1 : tie.Then1 = search in
+    λ s. simp (c .ghost-atom .ensures, then1 .if1 .taken)
 
 refused-requires : tie.Need-refused-requires
 refused-requires c κs = search needs
 
 returns-2 : tie.Need-returns-2
 unfolding need
-returns-2 c = λ s. refused-is _ _ _ _ s (c .refused .ensures) ∙ simp (ne-eqb 0 _ (λ e. c .before .if1 .left (sym e)))
+returns-2 c =
+    let else1 : tie.Else1 = search in
+    λ s. refused-is _ _ _ _ s (c .refused .ensures) ∙ simp (ne-eqb 0 _ (λ e. else1 .if1 .left (sym e)))
 
 pub concat-none-spec : {M : Type 1} → statement M
 concat-none-spec = tie.close (tie.spec ghost-atom-requires returns refused-requires returns-2)

@@ -21,10 +21,14 @@ refused-requires : tie.Need-refused-requires
 refused-requires c κs = search needs
 
 returns : tie.Need-returns
-returns c = λ b. simp (c .ghost-atom .ensures, ← (c .before .before .before .measure-one .ensures), c .before .enum-told .given .1)
+returns c =
+    let (measure-one, told) : tie.After-measure-one × tie.After-enum-told = search in
+    λ b. simp (c .ghost-atom .ensures, ← (measure-one .measure-one .ensures), told .enum-told .given .1)
 
 returns-2 : tie.Need-returns-2
-returns-2 c = λ b. refused-is _ _ _ _ _ (c .refused .ensures) ∙ simp (← (c .before .before .before .before .measure-one .ensures), c .before .before .verdict .given .1)
+returns-2 c =
+    let (measure-one, verdict) : tie.After-measure-one × tie.After-verdict = search in
+    λ b. refused-is _ _ _ _ _ (c .refused .ensures) ∙ simp (← (measure-one .measure-one .ensures), verdict .verdict .given .1)
 
 pub concat-one-spec : {M : Type 1} → statement M
 concat-one-spec =

@@ -19,8 +19,9 @@ total-requires c κs = search needs
 returns : tie.Need-returns
 unfolding concatTests need
 returns c =
-    let a = c .before .before .before .before .before .before .before .args .a in
-    simp (← (c .before .before .before .store-sound .ensures), c .before .before .if1 .taken, le-ltb (a .used .atoms + a .ghosts .atoms) 62500000 (omega arith))
+    let (start, store-sound, then1) : tie.Start × tie.After-store-sound × tie.Then1 = search in
+    let a = start .args .a in
+    simp (← (store-sound .store-sound .ensures), then1 .if1 .taken, le-ltb (a .used .atoms + a .ghosts .atoms) 62500000 (omega arith))
 
 total-requires-2 : tie.Need-total-requires-2
 total-requires-2 c κs = search needs
@@ -31,20 +32,24 @@ total-requires-3 c κs = search needs
 returns-2 : tie.Need-returns-2
 unfolding concatTests need
 returns-2 c =
-    let a = c .before .before .before .before .before .before .before .before .before .before .before .args in
-    let l = store-lent _ _ _ _ (sym (c .before .before .before .before .before .before .before .store-sound .ensures) ∙ c .before .before .before .before .before .before .if1 .taken) in
-    simp (← (c .before .before .before .before .before .before .before .store-sound .ensures), c .before .before .before .before .before .before .if1 .taken, lt-ltb (a .a .used .atoms + a .a .ghosts .atoms) 62500000 (omega arith), lt-leb (a .a .used .bytes + a .a .ghosts .bytes + a .size) (a .a .limit) (omega arith))
+    let (start, store-sound, then1) : tie.Start × tie.After-store-sound × tie.Then1 = search in
+    let a = start .args in
+    let l = store-lent _ _ _ _ (sym (store-sound .store-sound .ensures) ∙ then1 .if1 .taken) in
+    simp (← (store-sound .store-sound .ensures), then1 .if1 .taken, lt-ltb (a .a .used .atoms + a .a .ghosts .atoms) 62500000 (omega arith), lt-leb (a .a .used .bytes + a .a .ghosts .bytes + a .size) (a .a .limit) (omega arith))
 
 returns-3 : tie.Need-returns-3
 unfolding concatTests need
 returns-3 c =
-    let a = c .before .before .before .before .before .before .before .before .before .before .before .args in
-    let l = store-lent _ _ _ _ (sym (c .before .before .before .before .before .before .before .store-sound .ensures) ∙ c .before .before .before .before .before .before .if1 .taken) in
-    simp (← (c .before .before .before .before .before .before .before .store-sound .ensures), c .before .before .before .before .before .before .if1 .taken, lt-ltb (a .a .used .atoms + a .a .ghosts .atoms) 62500000 (omega arith), le-leb (a .a .used .bytes + a .a .ghosts .bytes + a .size) (a .a .limit) (omega arith))
+    let (start, store-sound, then1) : tie.Start × tie.After-store-sound × tie.Then1 = search in
+    let a = start .args in
+    let l = store-lent _ _ _ _ (sym (store-sound .store-sound .ensures) ∙ then1 .if1 .taken) in
+    simp (← (store-sound .store-sound .ensures), then1 .if1 .taken, lt-ltb (a .a .used .atoms + a .a .ghosts .atoms) 62500000 (omega arith), le-leb (a .a .used .bytes + a .a .ghosts .bytes + a .size) (a .a .limit) (omega arith))
 
 returns-4 : tie.Need-returns-4
 unfolding concatTests need
-returns-4 c = simp (← (c .before .store-sound .ensures), c .if1 .left)
+returns-4 c =
+    let store-sound : tie.After-store-sound = search in
+    simp (← (store-sound .store-sound .ensures), c .if1 .left)
 
 pub concat-tests-spec : {M : Type 1} → statement M
 concat-tests-spec =

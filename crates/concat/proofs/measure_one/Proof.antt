@@ -14,7 +14,9 @@ enum-known-found : tie.Need-enum-known-found
 enum-known-found c = search needs
 
 sub-settled : tie.Need-sub-settled
-sub-settled c = omega (arith, atom-in _ _ _ _ (sym (c .before .before .before .atom-of .ensures) ∙ ap atomPaper (c .before .found .given .1)))
+sub-settled c =
+    let (atom-of, found) : tie.After-atom-of × tie.After-found = search in
+    omega (arith, atom-in _ _ _ _ (sym (atom-of .atom-of .ensures) ∙ ap atomPaper (found .found .given .1)))
 
 settled-requires : tie.Need-settled-requires
 settled-requires c κs = search needs
@@ -32,13 +34,19 @@ enum-known-found-3 : tie.Need-enum-known-found-3
 enum-known-found-3 c = search needs
 
 returns : tie.Need-returns
-returns c = simp (c .settled .ensures, ← (c .before .before .before .before .atom-of .ensures), c .before .before .found .given .1)
+returns c =
+    let (atom-of, found) : tie.After-atom-of × tie.After-found = search in
+    simp (c .settled .ensures, ← (atom-of .atom-of .ensures), found .found .given .1)
 
 returns-2 : tie.Need-returns-2
-returns-2 c = simp (c .settled2 .ensures, c .before .len-for-value .ensures, ← (c .before .before .before .before .before .atom-of .ensures), c .before .before .before .found2 .given .1)
+returns-2 c =
+    let (atom-of, found2, len-for-value) : tie.After-atom-of × tie.After-found2 × tie.After-len-for-value = search in
+    simp (c .settled2 .ensures, len-for-value .len-for-value .ensures, ← (atom-of .atom-of .ensures), found2 .found2 .given .1)
 
 returns-3 : tie.Need-returns-3
-returns-3 c = simp (← (c .before .before .before .atom-of .ensures), c .before .found3 .given .1)
+returns-3 c =
+    let (atom-of, found3) : tie.After-atom-of × tie.After-found3 = search in
+    simp (← (atom-of .atom-of .ensures), found3 .found3 .given .1)
 
 pub measure-one-spec : {M : Type 1} → statement M
 measure-one-spec =

@@ -23,11 +23,13 @@ abbrev μ-loop : tie.MeasureT-loop
 μ-loop x k₀ k = 7 - k
 
 returns : tie.Need-returns Inv-loop μ-loop
-returns c = let s = c .before in sym (count-zero (s .args .x) (bits-zero (s .args .x) (s .fits .x) (c .if1 .taken)))
+returns c =
+    let s : tie.Start Inv-loop μ-loop = search in
+    sym (count-zero (s .args .x) (bits-zero (s .args .x) (s .fits .x) (c .if1 .taken)))
 
 loop-holds : tie.Need-loop-holds Inv-loop μ-loop
 loop-holds c =
-    let s = c .before in
+    let s : tie.Start Inv-loop μ-loop = search in
     (search needs, count-some (toZ w64 (ofZ w64 (s .args .x))) (λ e. c .if1 .left (ap (ofZ w64) (sym (toZ-ofZ w64 (s .args .x) (s .fits .x)) ∙ e))))
 
 threshold-requires : tie.Need-threshold-requires Inv-loop μ-loop
@@ -41,11 +43,12 @@ add-result c = search needs
 
 returns-2 : tie.Need-returns-2 Inv-loop μ-loop
 returns-2 c =
-    let s = c .before .before .before .before .before .before in
-    let l = c .before .before .before .before .loop in
-    let t = c .before .before .threshold in
+    let (s, loop, threshold, within) :
+    tie.Start Inv-loop μ-loop × tie.At-loop Inv-loop μ-loop × tie.After-threshold Inv-loop μ-loop × tie.After-within Inv-loop μ-loop = search in
+    let l = loop .loop in
+    let t = threshold .threshold in
     let z : ℤ = toZ w64 (ofZ w64 (s .args .x)) in
-    let less = ltb-true (mag z) (t .result) (sym (c .before .within .ensures) ∙ c .if2 .taken) in
+    let less = ltb-true (mag z) (t .result) (sym (within .within .ensures) ∙ c .if2 .taken) in
     walk-stop z (l .k) (omega arith) (l .inv .1) (omega (arith, t .ensures .half-of, less)) ∙ ap countOf (toZ-ofZ w64 (s .args .x) (s .fits .x))
 
 add-k : tie.Need-add-k Inv-loop μ-loop
@@ -56,19 +59,20 @@ loop-less c = search needs
 
 loop-again : tie.Need-loop-again Inv-loop μ-loop
 loop-again c =
-    let s = c .before .before .before .before .before .before in
-    let l = c .before .before .before .before .loop in
-    let t = c .before .before .threshold in
+    let (s, loop, threshold, within) :
+    tie.Start Inv-loop μ-loop × tie.At-loop Inv-loop μ-loop × tie.After-threshold Inv-loop μ-loop × tie.After-within Inv-loop μ-loop = search in
+    let l = loop .loop in
+    let t = threshold .threshold in
     let z : ℤ = toZ w64 (ofZ w64 (s .args .x)) in
-    let more = ltb-false (mag z) (t .result) (sym (c .before .within .ensures) ∙ c .if2 .left) in
+    let more = ltb-false (mag z) (t .result) (sym (within .within .ensures) ∙ c .if2 .left) in
     (omega arith, walk-on z (l .k) (omega arith) (l .inv .1) (omega (arith, t .ensures .half-of, more)))
 
 returns-3 : tie.Need-returns-3 Inv-loop μ-loop
 returns-3 c =
-    let s = c .before .before .before in
+    let (s, loop) : tie.Start Inv-loop μ-loop × tie.At-loop Inv-loop μ-loop = search in
     let same = toZ-ofZ w64 (s .args .x) (s .fits .x) in
-    let e : c .before .loop .k ≡ 7 = omega arith in
-    walk-stop (toZ w64 (ofZ w64 (s .args .x))) 7 (omega arith) (rw e at (c .before .loop .inv .1)) (omega (arith, s .fits .x .sfits, ap mag same))
+    let e : loop .loop .k ≡ 7 = omega arith in
+    walk-stop (toZ w64 (ofZ w64 (s .args .x))) 7 (omega arith) (rw e at (loop .loop .inv .1)) (omega (arith, s .fits .x .sfits, ap mag same))
     ∙ ap countOf same
 
 pub count-i64-spec : {M : Type 1} → statement M

@@ -16,10 +16,14 @@ abbrev μ-loop : tie.MeasureT-loop
 μ-loop x k₀ k = 8 - k
 
 returns : tie.Need-returns Inv-loop μ-loop
-returns c = sym (count-zero (pos (c .before .args .x)) (ap pos (c .if1 .taken)))
+returns c =
+    let start : tie.Start Inv-loop μ-loop = search in
+    sym (count-zero (pos (start .args .x)) (ap pos (c .if1 .taken)))
 
 loop-holds : tie.Need-loop-holds Inv-loop μ-loop
-loop-holds c = (search needs, count-some (pos (c .before .args .x)) (λ e. c .if1 .left (ap mag e)))
+loop-holds c =
+    let start : tie.Start Inv-loop μ-loop = search in
+    (search needs, count-some (pos (start .args .x)) (λ e. c .if1 .left (ap mag e)))
 
 threshold-requires : tie.Need-threshold-requires Inv-loop μ-loop
 threshold-requires c κs = search needs
@@ -29,9 +33,10 @@ add-result c = search needs
 
 returns-2 : tie.Need-returns-2 Inv-loop μ-loop
 returns-2 c =
-    let l = c .before .before .before .loop in
-    let x = c .before .before .before .before .before .args .x in
-    walk-stop (pos x) (l .k) (omega arith) (l .inv .1) (omega (arith, c .before .threshold .ensures .half-of))
+    let (start, loop, threshold) : tie.Start Inv-loop μ-loop × tie.At-loop Inv-loop μ-loop × tie.After-threshold Inv-loop μ-loop = search in
+    let l = loop .loop in
+    let x = start .args .x in
+    walk-stop (pos x) (l .k) (omega arith) (l .inv .1) (omega (arith, threshold .threshold .ensures .half-of))
 
 add-k : tie.Need-add-k Inv-loop μ-loop
 add-k c = search needs
@@ -41,14 +46,16 @@ loop-less c = search needs
 
 loop-again : tie.Need-loop-again Inv-loop μ-loop
 loop-again c =
-    let l = c .before .before .before .loop in
-    let x = c .before .before .before .before .before .args .x in
-    (omega arith, walk-on (pos x) (l .k) (omega arith) (l .inv .1) (omega (arith, c .before .threshold .ensures .half-of)))
+    let (start, loop, threshold) : tie.Start Inv-loop μ-loop × tie.At-loop Inv-loop μ-loop × tie.After-threshold Inv-loop μ-loop = search in
+    let l = loop .loop in
+    let x = start .args .x in
+    (omega arith, walk-on (pos x) (l .k) (omega arith) (l .inv .1) (omega (arith, threshold .threshold .ensures .half-of)))
 
 returns-3 : tie.Need-returns-3 Inv-loop μ-loop
 returns-3 c =
-    let e : c .before .loop .k ≡ 8 = omega arith in
-    walk-end (pos (c .before .before .before .args .x)) (rw e at (c .before .loop .inv .1))
+    let (start, loop) : tie.Start Inv-loop μ-loop × tie.At-loop Inv-loop μ-loop = search in
+    let e : loop .loop .k ≡ 8 = omega arith in
+    walk-end (pos (start .args .x)) (rw e at (loop .loop .inv .1))
 
 pub count-u64-spec : {M : Type 1} → statement M
 count-u64-spec =

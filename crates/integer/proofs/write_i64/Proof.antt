@@ -20,21 +20,23 @@ bits-i64-requires : tie.Need-bits-i64-requires
 bits-i64-requires c κs = search needs
 
 put-be-requires : tie.Need-put-be-requires
-put-be-requires c κs = omega (arith, count-le (toZ w64 (ofZ w64 (c .before .before .before .before .args .x))))
+put-be-requires c κs =
+    let start : tie.Start = search in
+    omega (arith, count-le (toZ w64 (ofZ w64 (start .args .x))))
 
 same-length : tie.Need-same-length
 same-length c = search needs
 
 returns : tie.Need-returns
 returns c =
-    let s = c .before .before .before .before .before .before .before in
+    let (s, count-i64, bits-i64, put-be) : tie.Start × tie.After-count-i64 × tie.After-bits-i64 × tie.After-put-be = search in
     let x = s .args .x in
-    let n = c .before .before .before .before .before .count-i64 in
-    let v = c .before .before .before .before .bits-i64 in
+    let n = count-i64 .count-i64 in
+    let v = bits-i64 .bits-i64 in
     let same = toZ-ofZ w64 x (s .fits .x) in
     written x (n .result) (v .result) (now (s .args .buf)) _ (omega (arith, s .fits .x .sfits)) (n .ensures ∙ ap countOf same)
     (ap (be (countOf x)) (v .ensures ∙ ap (ofZ w64) same) ∙ bits-int x (s .fits .x))
-    (c .before .before .put-be .ensures)
+    (put-be .put-be .ensures)
 
 pub write-i64-spec : {M : Type 1} → statement M
 write-i64-spec =

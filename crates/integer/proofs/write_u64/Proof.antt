@@ -13,17 +13,19 @@ count-u64-requires : tie.Need-count-u64-requires
 count-u64-requires c κs = search needs
 
 put-be-requires : tie.Need-put-be-requires
-put-be-requires c κs = omega (arith, count-le (pos (c .before .before .before .args .x)))
+put-be-requires c κs =
+    let start : tie.Start = search in
+    omega (arith, count-le (pos (start .args .x)))
 
 same-length : tie.Need-same-length
 same-length c = search needs
 
 returns : tie.Need-returns
 returns c =
-    let s = c .before .before .before .before .before .before in
-    let n = c .before .before .before .before .count-u64 in
+    let (s, count-u64, put-be) : tie.Start × tie.After-count-u64 × tie.After-put-be = search in
+    let n = count-u64 .count-u64 in
     written (pos (s .args .x)) (n .result) (s .args .x) (now (s .args .buf)) _ (omega (arith, s .fits .x)) (n .ensures) refl
-    (c .before .before .put-be .ensures)
+    (put-be .put-be .ensures)
 
 pub write-u64-spec : {M : Type 1} → statement M
 write-u64-spec = tie.close (tie.spec count-u64-requires put-be-requires same-length returns)

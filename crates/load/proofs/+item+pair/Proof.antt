@@ -11,7 +11,7 @@ use Rattle.load.specs.Tokens.{tokenPaper}
 use Rattle.load.proofs.Readings.{item-deep, item-by, pair-first, pair-rest, pair-both}
 use Rattle.load.proofs.Tokens.{pair-inside, atom-inside}
 use Prim.Native.Nat.{ℕ, _+_, _*_, _<_}
-use borrow.Fn.Kinds.{In}
+use borrow.Fn.Kinds.{In, Out}
 use borrow.Fn.PlainCycle.{Measures, is, falls, and}
 use Rattle.load.proofs.item.Reads as item
 use Rattle.load.proofs.item.Kinds as item-kinds
@@ -52,106 +52,194 @@ abbrev pair-claims : ℕ → pair-lts.Claims
 pair-claims t = (item-below t, item.Post, pair-item-reads.Asked, pair-item-reads.Learnt)
 
 module _ (t : ℕ) where
+  abbrev in-item : (item-lts.Claims → In 7 item-kinds.ps → Out 7 item-kinds.ps item-kinds.r → Type 0) → Type 0
+  in-item place = place (item-claims t) (item-at t) item.Post
+
   item-returns : item-lts.Need-returns (item-claims t) (item-at t) item.Post
   item-returns c =
-      let a = c .before .before .before .before .before .before .before .before .args in
+      let (start, then1) : in-item item-lts.Start × in-item item-lts.Then1 = search in
+      let a = start .args in
       let l = lists (now (a .bytes)) (atomSlots (now (a .starts)) (now (a .ends))) (pairSlots (now (a .firsts)) (now (a .rests))) in
-      c .fault .ensures (recordOf (now (a .row))) l ∙ item-deep (now (a .f)) (a .levels) (a .at) (recordOf (now (a .row))) l (c .before .if1 .taken)
+      c .fault .ensures (recordOf (now (a .row))) l ∙ item-deep (now (a .f)) (a .levels) (a .at) (recordOf (now (a .row))) l (then1 .if1 .taken)
 
   item-pair-requires : item-lts.Need-pair-requires (item-claims t) (item-at t) item.Post
   item-pair-requires c κs =
-      let a = c .before .before .before .before .before .before .before .before .before .before .before .before .before .before .before .before .args in
-      (omega (arith, c .before .before .before .before .before .before .before .before .before .before .before .before .before .before .before .before .pre .0), pair-inside (now (a .f)) (a .at) (sym (ap tokenPaper (c .before .before .before .before .before .before .enum-told2 .given .1)) ∙ c .before .before .before .before .before .before .before .before .token-at .ensures))
+      let (start, token-at, told2) : in-item item-lts.Start × in-item item-lts.After-token-at × in-item item-lts.After-enum-told2 = search in
+      let a = start .args in
+      (omega (arith, start .pre .0), pair-inside (now (a .f)) (a .at) (sym (ap tokenPaper (told2 .enum-told2 .given .1)) ∙ token-at .token-at .ensures))
 
   item-atom-item-requires : item-lts.Need-atom-item-requires (item-claims t) (item-at t) item.Post
   item-atom-item-requires c κs =
-      let a = c .before .before .before .before .before .before .before .before .before .before .before .before .before .before .before .args in
-      let g = c .before .before .before .before .before .found .given in
-      atom-inside (now (a .f)) (a .at) (g .0 .0) (g .0 .1 .0) (sym (ap tokenPaper (g .1)) ∙ c .before .before .before .before .before .before .before .token-at .ensures)
+      let (start, token-at, found) : in-item item-lts.Start × in-item item-lts.After-token-at × in-item item-lts.After-found = search in
+      let a = start .args in
+      let g = found .found .given in
+      atom-inside (now (a .f)) (a .at) (g .0 .0) (g .0 .1 .0) (sym (ap tokenPaper (g .1)) ∙ token-at .token-at .ensures)
 
   item-returns-2 : item-lts.Need-returns-2 (item-claims t) (item-at t) item.Post
   item-returns-2 c =
-      let a = c .before .before .before .before .before .before .before .before .before .before .before .args in
+      let (start, else1, token-at, told) :
+      in-item item-lts.Start × in-item item-lts.Else1 × in-item item-lts.After-token-at × in-item item-lts.After-enum-told = search in
+      let a = start .args in
       let l = lists (now (a .bytes)) (atomSlots (now (a .starts)) (now (a .ends))) (pairSlots (now (a .firsts)) (now (a .rests))) in
       c .fault2 .ensures (recordOf (now (a .row))) l
-      ∙ item-by (now (a .f)) (a .levels) (a .at) (recordOf (now (a .row))) l broken (c .before .before .before .before .if1 .left) (sym (ap tokenPaper (c .before .enum-told .given .1)) ∙ c .before .before .before .token-at .ensures)
+      ∙ item-by (now (a .f)) (a .levels) (a .at) (recordOf (now (a .row))) l broken (else1 .if1 .left) (sym (ap tokenPaper (told .enum-told .given .1)) ∙ token-at .token-at .ensures)
 
   item-returns-3 : item-lts.Need-returns-3 (item-claims t) (item-at t) item.Post
   item-returns-3 c =
-      let a = c .before .before .before .before .before .before .before .before .before .before .before .before .before .before .before .before .before .before .before .before .before .before .before .before .before .before .before .args in
+      let (start, else1, token-at, told2, at-pair) :
+      in-item item-lts.Start × in-item item-lts.Else1 × in-item item-lts.After-token-at × in-item item-lts.After-enum-told2 × in-item item-lts.After-pair = search in
+      let a = start .args in
       let l = lists (now (a .bytes)) (atomSlots (now (a .starts)) (now (a .ends))) (pairSlots (now (a .firsts)) (now (a .rests))) in
-      c .before .before .before .before .before .before .before .before .before .before .pair .ensures
-      ∙ item-by (now (a .f)) (a .levels) (a .at) (recordOf (now (a .row))) l opening (c .before .before .before .before .before .before .before .before .before .before .before .before .before .before .before .before .before .before .before .before .if1 .left) (sym (ap tokenPaper (c .before .before .before .before .before .before .before .before .before .before .before .before .before .before .before .before .before .enum-told2 .given .1)) ∙ c .before .before .before .before .before .before .before .before .before .before .before .before .before .before .before .before .before .before .before .token-at .ensures)
+      at-pair .pair .ensures
+      ∙ item-by (now (a .f)) (a .levels) (a .at) (recordOf (now (a .row))) l opening (else1 .if1 .left) (sym (ap tokenPaper (told2 .enum-told2 .given .1)) ∙ token-at .token-at .ensures)
 
   item-returns-4 : item-lts.Need-returns-4 (item-claims t) (item-at t) item.Post
   item-returns-4 c =
-      let a = c .before .before .before .before .before .before .before .before .before .before .before .before .before .before .before .before .before .before .before .before .before .before .args in
+      let (start, else1, token-at, found, atom-item) :
+      in-item item-lts.Start × in-item item-lts.Else1 × in-item item-lts.After-token-at × in-item item-lts.After-found × in-item item-lts.After-atom-item = search in
+      let a = start .args in
       let l = lists (now (a .bytes)) (atomSlots (now (a .starts)) (now (a .ends))) (pairSlots (now (a .firsts)) (now (a .rests))) in
-      let g = c .before .before .before .before .before .before .before .before .before .before .before .before .found .given in
-      c .before .before .before .before .before .before .atom-item .ensures (pairSlots (now (a .firsts)) (now (a .rests)))
-      ∙ item-by (now (a .f)) (a .levels) (a .at) (recordOf (now (a .row))) l (string (g .0 .0) (g .0 .1 .0)) (c .before .before .before .before .before .before .before .before .before .before .before .before .before .before .before .if1 .left) (sym (ap tokenPaper (g .1)) ∙ c .before .before .before .before .before .before .before .before .before .before .before .before .before .before .token-at .ensures)
+      let g = found .found .given in
+      atom-item .atom-item .ensures (pairSlots (now (a .firsts)) (now (a .rests)))
+      ∙ item-by (now (a .f)) (a .levels) (a .at) (recordOf (now (a .row))) l (string (g .0 .0) (g .0 .1 .0)) (else1 .if1 .left) (sym (ap tokenPaper (g .1)) ∙ token-at .token-at .ensures)
+
+  abbrev in-pair : (pair-lts.Claims → In 7 pair-kinds.ps → Out 7 pair-kinds.ps pair-kinds.r → Type 0) → Type 0
+  in-pair place = place (pair-claims t) (pair-at t) pair.Post
 
   pair-returns : pair-lts.Need-returns (pair-claims t) (pair-at t) pair.Post
   pair-returns c =
-      let a = c .before .before .before .before .before .before .before .before .before .before .before .before .before .before .before .before .before .before .before .before .before .before .before .before .before .args in
+      let (start, at-item) : in-pair pair-lts.Start × in-pair pair-lts.After-item = search in
+      let a = start .args in
       let l = lists (now (a .bytes)) (atomSlots (now (a .starts)) (now (a .ends))) (pairSlots (now (a .firsts)) (now (a .rests))) in
-      let i = c .before .before .before .before .before .before .before .before .before .before .before .before .item in
+      let i = at-item .item in
       pair-first (Rule.item (now (a .f)) (a .levels)) (a .at) (recordOf (now (a .row))) l (i .result) (recordOf (i .last .1 .1 .1 .0)) (lists (i .last .1 .1 .1 .1 .0) (atomSlots (i .last .1 .1 .1 .1 .1 .0) (i .last .1 .1 .1 .1 .1 .1 .0)) (pairSlots (i .last .1 .1 .1 .1 .1 .1 .1 .0) (i .last .1 .1 .1 .1 .1 .1 .1 .1 .0)))
       (c .enum-told .given .0 .0) (c .enum-told .given .0 .1 .0) (i .ensures) (c .enum-told .given .1)
 
   pair-item-requires-2 : pair-lts.Need-item-requires-2 (pair-claims t) (pair-at t) pair.Post
-  pair-item-requires-2 c κs = omega (arith, c .before .before .before .before .before .before .before .before .before .before .before .before .before .before .before .before .before .before .before .before .before .before .before .before .before .before .before .before .before .before .before .before .pre .0)
+  pair-item-requires-2 c κs =
+      let start : in-pair pair-lts.Start = search in
+      omega (arith, start .pre .0)
 
   pair-same-length-6 : pair-lts.Need-same-length-6 (pair-claims t) (pair-at t) pair.Post
-  pair-same-length-6 c = c .before .before .before .before .before .before .before .before .before .before .before .bytes2 .given ∙ c .before .before .before .before .before .before .before .before .before .before .before .before .before .before .before .before .before .before .before .before .before .before .before .before .before .before .before .before .before .before .before .bytes .given
+  pair-same-length-6 c =
+      let (bytes, bytes2) : in-pair pair-lts.After-bytes × in-pair pair-lts.After-bytes2 = search in
+      bytes2 .bytes2 .given ∙ bytes .bytes .given
 
   pair-same-length-7 : pair-lts.Need-same-length-7 (pair-claims t) (pair-at t) pair.Post
-  pair-same-length-7 c = c .before .before .before .before .before .before .before .before .before .starts2 .given ∙ c .before .before .before .before .before .before .before .before .before .before .before .before .before .before .before .before .before .before .before .before .before .before .before .before .before .before .before .before .before .starts .given
+  pair-same-length-7 c =
+      let (starts, starts2) : in-pair pair-lts.After-starts × in-pair pair-lts.After-starts2 = search in
+      starts2 .starts2 .given ∙ starts .starts .given
 
   pair-same-length-8 : pair-lts.Need-same-length-8 (pair-claims t) (pair-at t) pair.Post
-  pair-same-length-8 c = c .before .before .before .before .before .before .before .ends2 .given ∙ c .before .before .before .before .before .before .before .before .before .before .before .before .before .before .before .before .before .before .before .before .before .before .before .before .before .before .before .ends .given
+  pair-same-length-8 c =
+      let (ends, ends2) : in-pair pair-lts.After-ends × in-pair pair-lts.After-ends2 = search in
+      ends2 .ends2 .given ∙ ends .ends .given
 
   pair-same-length-9 : pair-lts.Need-same-length-9 (pair-claims t) (pair-at t) pair.Post
-  pair-same-length-9 c = c .before .before .before .before .before .firsts2 .given ∙ c .before .before .before .before .before .before .before .before .before .before .before .before .before .before .before .before .before .before .before .before .before .before .before .before .before .firsts .given
+  pair-same-length-9 c =
+      let (firsts, firsts2) : in-pair pair-lts.After-firsts × in-pair pair-lts.After-firsts2 = search in
+      firsts2 .firsts2 .given ∙ firsts .firsts .given
 
   pair-same-length-10 : pair-lts.Need-same-length-10 (pair-claims t) (pair-at t) pair.Post
-  pair-same-length-10 c = c .before .before .before .rests2 .given ∙ c .before .before .before .before .before .before .before .before .before .before .before .before .before .before .before .before .before .before .before .before .before .before .before .rests .given
+  pair-same-length-10 c =
+      let (rests, rests2) : in-pair pair-lts.After-rests × in-pair pair-lts.After-rests2 = search in
+      rests2 .rests2 .given ∙ rests .rests .given
+
+  abbrev earlier : in-pair pair-lts.After-head → in-pair pair-lts.Start × in-pair pair-lts.After-item
+  earlier c = search
 
   pair-returns-2 : pair-lts.Need-returns-2 (pair-claims t) (pair-at t) pair.Post
   pair-returns-2 c =
-      let a = c .before .before .before .before .before .before .before .before .before .before .before .before .before .before .before .before .before .before .before .before .before .before .before .before .before .before .before .before .before .before .before .before .before .before .before .before .before .before .before .before .before .before .before .before .before .args in
+      let (head, item2) : in-pair pair-lts.After-head × in-pair pair-lts.After-item2 = search in
+      let (start, at-item) = earlier head in
+      let a = start .args in
       let l = lists (now (a .bytes)) (atomSlots (now (a .starts)) (now (a .ends))) (pairSlots (now (a .firsts)) (now (a .rests))) in
-      let i = c .before .before .before .before .before .before .before .before .before .before .before .before .before .before .before .before .before .before .before .before .before .before .before .before .before .before .before .before .before .before .before .before .item in
-      let g = c .before .before .before .before .before .before .before .before .before .before .before .before .before .before .before .before .before .before .before .before .head .given in
-      let j = c .before .before .before .before .before .before .before .before .before .before .before .before .item2 in
+      let i = at-item .item in
+      let g = head .head .given in
+      let j = item2 .item2 in
       pair-rest (Rule.item (now (a .f)) (a .levels)) (a .at) (recordOf (now (a .row))) l (i .result) (recordOf (i .last .1 .1 .1 .0)) (lists (i .last .1 .1 .1 .1 .0) (atomSlots (i .last .1 .1 .1 .1 .1 .0) (i .last .1 .1 .1 .1 .1 .1 .0)) (pairSlots (i .last .1 .1 .1 .1 .1 .1 .1 .0) (i .last .1 .1 .1 .1 .1 .1 .1 .1 .0))) (g .0 .0) (i .ensures) (g .1)
       (j .result) (recordOf (j .last .1 .1 .1 .0)) (lists (j .last .1 .1 .1 .1 .0) (atomSlots (j .last .1 .1 .1 .1 .1 .0) (j .last .1 .1 .1 .1 .1 .1 .0)) (pairSlots (j .last .1 .1 .1 .1 .1 .1 .1 .0) (j .last .1 .1 .1 .1 .1 .1 .1 .1 .0))) (c .enum-told2 .given .0 .0) (c .enum-told2 .given .0 .1 .0) (j .ensures) (c .enum-told2 .given .1)
 
+  abbrev bytes-of : in-pair pair-lts.After-bytes2 → in-pair pair-lts.After-bytes
+  bytes-of c = search
+
   pair-same-length-11 : pair-lts.Need-same-length-11 (pair-claims t) (pair-at t) pair.Post
-  pair-same-length-11 c = c .before .before .before .before .before .before .before .before .before .before .before .before .before .before .before .before .before .before .before .before .bytes2 .given ∙ c .before .before .before .before .before .before .before .before .before .before .before .before .before .before .before .before .before .before .before .before .before .before .before .before .before .before .before .before .before .before .before .before .before .before .before .before .before .before .before .before .bytes .given
+  pair-same-length-11 c =
+      let bytes2 : in-pair pair-lts.After-bytes2 = search in
+      let bytes = bytes-of bytes2 in
+      bytes2 .bytes2 .given ∙ bytes .bytes .given
+
+  abbrev starts-of : in-pair pair-lts.After-starts2 → in-pair pair-lts.After-starts
+  starts-of c = search
 
   pair-same-length-12 : pair-lts.Need-same-length-12 (pair-claims t) (pair-at t) pair.Post
-  pair-same-length-12 c = c .before .before .before .before .before .before .before .before .before .before .before .before .before .before .before .before .before .before .starts2 .given ∙ c .before .before .before .before .before .before .before .before .before .before .before .before .before .before .before .before .before .before .before .before .before .before .before .before .before .before .before .before .before .before .before .before .before .before .before .before .before .before .starts .given
+  pair-same-length-12 c =
+      let starts2 : in-pair pair-lts.After-starts2 = search in
+      let starts = starts-of starts2 in
+      starts2 .starts2 .given ∙ starts .starts .given
+
+  abbrev ends-of : in-pair pair-lts.After-ends2 → in-pair pair-lts.After-ends
+  ends-of c = search
 
   pair-same-length-13 : pair-lts.Need-same-length-13 (pair-claims t) (pair-at t) pair.Post
-  pair-same-length-13 c = c .before .before .before .before .before .before .before .before .before .before .before .before .before .before .before .before .ends2 .given ∙ c .before .before .before .before .before .before .before .before .before .before .before .before .before .before .before .before .before .before .before .before .before .before .before .before .before .before .before .before .before .before .before .before .before .before .before .before .ends .given
+  pair-same-length-13 c =
+      let ends2 : in-pair pair-lts.After-ends2 = search in
+      let ends = ends-of ends2 in
+      ends2 .ends2 .given ∙ ends .ends .given
+
+  abbrev firsts-of : in-pair pair-lts.After-firsts2 → in-pair pair-lts.After-firsts
+  firsts-of c = search
 
   pair-same-length-14 : pair-lts.Need-same-length-14 (pair-claims t) (pair-at t) pair.Post
-  pair-same-length-14 c = c .before .before .before .firsts3 .given ∙ (c .before .before .before .before .before .before .before .before .before .before .before .before .before .before .firsts2 .given ∙ c .before .before .before .before .before .before .before .before .before .before .before .before .before .before .before .before .before .before .before .before .before .before .before .before .before .before .before .before .before .before .before .before .before .before .firsts .given)
+  pair-same-length-14 c =
+      let (firsts2, firsts3) : in-pair pair-lts.After-firsts2 × in-pair pair-lts.After-firsts3 = search in
+      let firsts = firsts-of firsts2 in
+      firsts3 .firsts3 .given ∙ (firsts2 .firsts2 .given ∙ firsts .firsts .given)
 
   pair-same-length-15 : pair-lts.Need-same-length-15 (pair-claims t) (pair-at t) pair.Post
-  pair-same-length-15 c = c .before .rests3 .given ∙ (c .before .before .before .before .before .before .before .before .before .before .before .before .rests2 .given ∙ c .before .before .before .before .before .before .before .before .before .before .before .before .before .before .before .before .before .before .before .before .before .before .before .before .before .before .before .before .before .before .before .before .rests .given)
+  pair-same-length-15 c =
+      let (rests, rests2, rests3) : in-pair pair-lts.After-rests × in-pair pair-lts.After-rests2 × in-pair pair-lts.After-rests3 = search in
+      rests3 .rests3 .given ∙ (rests2 .rests2 .given ∙ rests .rests .given)
+
+  abbrev starts2-of : in-pair pair-lts.After-tail → in-pair pair-lts.After-starts2
+  starts2-of c = search
+
+  abbrev item2-of : in-pair pair-lts.After-starts2 → in-pair pair-lts.After-item2
+  item2-of c = search
+
+  abbrev head-of : in-pair pair-lts.After-item2 → in-pair pair-lts.After-head
+  head-of c = search
+
+  abbrev starts-of-head : in-pair pair-lts.After-head → in-pair pair-lts.After-starts
+  starts-of-head c = search
+
+  abbrev item-of : in-pair pair-lts.After-starts → in-pair pair-lts.After-item
+  item-of c = search
+
+  abbrev slice-known2-of : in-pair pair-lts.After-item → in-pair pair-lts.After-slice-known2
+  slice-known2-of c = search
+
+  abbrev start-of : in-pair pair-lts.After-slice-known2 → in-pair pair-lts.Start
+  start-of c = search
 
   pair-returns-3 : pair-lts.Need-returns-3 (pair-claims t) (pair-at t) pair.Post
   pair-returns-3 c =
-      let a = c .before .before .before .before .before .before .before .before .before .before .before .before .before .before .before .before .before .before .before .before .before .before .before .before .before .before .before .before .before .before .before .before .before .before .before .before .before .before .before .before .before .before .before .before .before .before .before .before .before .before .before .before .before .before .args in
+      let (tail, pair-item) : in-pair pair-lts.After-tail × in-pair pair-lts.After-pair-item = search in
+      let starts2 = starts2-of tail in
+      let item2 = item2-of starts2 in
+      let head = head-of item2 in
+      let starts = starts-of-head head in
+      let at-item = item-of starts in
+      let slice-known2 = slice-known2-of at-item in
+      let start = start-of slice-known2 in
+      let a = start .args in
       let l = lists (now (a .bytes)) (atomSlots (now (a .starts)) (now (a .ends))) (pairSlots (now (a .firsts)) (now (a .rests))) in
-      let i = c .before .before .before .before .before .before .before .before .before .before .before .before .before .before .before .before .before .before .before .before .before .before .before .before .before .before .before .before .before .before .before .before .before .before .before .before .before .before .before .before .before .item in
-      let g = c .before .before .before .before .before .before .before .before .before .before .before .before .before .before .before .before .before .before .before .before .before .before .before .before .before .before .before .before .before .head .given in
-      let j = c .before .before .before .before .before .before .before .before .before .before .before .before .before .before .before .before .before .before .before .before .before .item2 in
+      let i = at-item .item in
+      let g = head .head .given in
+      let j = item2 .item2 in
       let o = lists (j .last .1 .1 .1 .1 .0) (atomSlots (j .last .1 .1 .1 .1 .1 .0) (j .last .1 .1 .1 .1 .1 .1 .0)) (pairSlots (j .last .1 .1 .1 .1 .1 .1 .1 .0) (j .last .1 .1 .1 .1 .1 .1 .1 .1 .0)) in
-      let h = c .before .before .before .before .before .before .before .before .before .tail .given in
-      c .before .before .before .before .pair-item .ensures (store (o .bytes) (o .atoms))
+      let h = tail .tail .given in
+      pair-item .pair-item .ensures (store (o .bytes) (o .atoms))
       ∙ pair-both (Rule.item (now (a .f)) (a .levels)) (a .at) (recordOf (now (a .row))) l (i .result) (recordOf (i .last .1 .1 .1 .0)) (lists (i .last .1 .1 .1 .1 .0) (atomSlots (i .last .1 .1 .1 .1 .1 .0) (i .last .1 .1 .1 .1 .1 .1 .0)) (pairSlots (i .last .1 .1 .1 .1 .1 .1 .1 .0) (i .last .1 .1 .1 .1 .1 .1 .1 .1 .0))) (g .0 .0) (i .ensures) (g .1)
       (j .result) (recordOf (j .last .1 .1 .1 .0)) o (h .0 .0) (j .ensures) (h .1)
 

@@ -38,12 +38,13 @@ same-length-3 c = search needs
 
 returns : tie.Need-returns
 returns c p =
-    let a = c .before .before .before .before .before .before .before .before .before .before .before .before .before .before .before .before .before .args in
+    let (start, new-atom) : tie.Start × tie.After-new-atom = search in
+    let a = start .args in
     c .placed .ensures _ _
     ∙ atom-row (a .at) (a .to) p _ _
-    (c .before .before .before .before .before .before .before .new-atom .ensures
+    (new-atom .new-atom .ensures
     ∙ ap (λ (v : List ℕ). rowed (newAtom (recordOf (now (a .row))) v (store (now (a .bytes)) (atomSlots (now (a .starts)) (now (a .ends))))))
-    (part-slice (a .from) (a .to) (now (a .f)) (c .before .before .before .before .before .before .before .before .before .before .before .before .before .before .before .before .before .pre .0)))
+    (part-slice (a .from) (a .to) (now (a .f)) (start .pre .0)))
 
 pub atom-item-spec : {M : Type 1} → statement M
 atom-item-spec =

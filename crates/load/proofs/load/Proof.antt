@@ -44,27 +44,53 @@ same-length-4 c = search needs
 same-length-5 : tie.Need-same-length-5
 same-length-5 c = search needs
 
+abbrev starts-of : tie.After-record → tie.After-starts
+starts-of c = search
+
+abbrev item-of : tie.After-starts → tie.After-item
+item-of c = search
+
+abbrev of-record-of : tie.After-item → tie.After-of-record
+of-record-of c = search
+
+abbrev then1-of : tie.After-of-record → tie.Then1
+then1-of c = search
+
+abbrev lists-sound-of : tie.Then1 → tie.After-lists-sound
+lists-sound-of c = search
+
+abbrev start-of : tie.After-lists-sound → tie.Start
+start-of c = search
+
 returns : tie.Need-returns
 returns c =
-    let a = c .before .before .before .before .before .before .before .before .before .before .before .before .before .before .before .before .before .before .before .before .before .before .before .before .before .before .before .before .before .args in
+    let at-record : tie.After-record = search in
+    let starts = starts-of at-record in
+    let at-item = item-of starts in
+    let of-record = of-record-of at-item in
+    let then1 = then1-of of-record in
+    let lists-sound = lists-sound-of then1 in
+    let start = start-of lists-sound in
+    let a = start .args in
     let l = lists (now (a .bytes)) (atomSlots (now (a .starts)) (now (a .ends))) (pairSlots (now (a .firsts)) (now (a .rests))) in
-    let i = c .before .before .before .before .before .before .before .before .before .before .before .before .before .item in
+    let i = at-item .item in
     let q = i .last .1 .1 .1 .1 in
     let m = lists (q .0) (atomSlots (q .1 .0) (q .1 .1 .0)) (pairSlots (q .1 .1 .1 .0) (q .1 .1 .1 .1 .0)) in
     c .settled .ensures m
-    ∙ ap (λ (b : Allocator). orBack (a .a) (atEnd (length (now (a .f))) (readItem (i .result) b m))) (c .before .«record» .ensures)
+    ∙ ap (λ (b : Allocator). orBack (a .a) (atEnd (length (now (a .f))) (readItem (i .result) b m))) (at-record .«record» .ensures)
     ∙ ap (λ (r : Reading). orBack (a .a) (atEnd (length (now (a .f))) r))
-    (i .ensures ∙ ap (λ (row : List ℕ). item (now (a .f)) levelsOf 0 (recordOf row) l) (c .before .before .before .before .before .before .before .before .before .before .before .before .before .before .before .before .before .before .before .before .of-record .ensures))
-    ∙ load-sound (now (a .f)) (a .a) l (sym (c .before .before .before .before .before .before .before .before .before .before .before .before .before .before .before .before .before .before .before .before .before .before .lists-sound .ensures) ∙ c .before .before .before .before .before .before .before .before .before .before .before .before .before .before .before .before .before .before .before .before .before .if1 .taken)
+    (i .ensures ∙ ap (λ (row : List ℕ). item (now (a .f)) levelsOf 0 (recordOf row) l) (of-record .of-record .ensures))
+    ∙ load-sound (now (a .f)) (a .a) l (sym (lists-sound .lists-sound .ensures) ∙ then1 .if1 .taken)
 
 refused-requires : tie.Need-refused-requires
 refused-requires c κs = search needs
 
 returns-2 : tie.Need-returns-2
 returns-2 c =
-    let a = c .before .before .before .before .before .before .before .before .before .args in
+    let (start, lists-sound, else1) : tie.Start × tie.After-lists-sound × tie.Else1 = search in
+    let a = start .args in
     let l = lists (now (a .bytes)) (atomSlots (now (a .starts)) (now (a .ends))) (pairSlots (now (a .firsts)) (now (a .rests))) in
-    c .refused .ensures l ∙ load-unsound (now (a .f)) (a .a) l (sym (c .before .before .lists-sound .ensures) ∙ c .before .if1 .left)
+    c .refused .ensures l ∙ load-unsound (now (a .f)) (a .a) l (sym (lists-sound .lists-sound .ensures) ∙ else1 .if1 .left)
 
 pub load-spec : {M : Type 1} → statement M
 load-spec =

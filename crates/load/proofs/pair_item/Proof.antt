@@ -19,8 +19,9 @@ same-length-2 c = search needs
 
 returns : tie.Need-returns
 returns c s =
-    let a = c .before .before .before .before .before .before .before .before .before .before .before .args in
-    c .placed .ensures _ _ ∙ pair-row (a .at) (a .next) s _ _ (c .before .before .before .before .before .new-pair .ensures)
+    let (start, new-pair) : tie.Start × tie.After-new-pair = search in
+    let a = start .args in
+    c .placed .ensures _ _ ∙ pair-row (a .at) (a .next) s _ _ (new-pair .new-pair .ensures)
 
 pub pair-item-spec : {M : Type 1} → statement M
 pair-item-spec =

@@ -16,12 +16,14 @@ enum-told-2 c = search needs
 
 returns : tie.Need-returns
 returns c b l =
-    let a = c .before .before .args in
+    let start : tie.Start = search in
+    let a = start .args in
     ap (λ (p : ℕ). reading (answerPaper (a .answer)) p b l) (placed-node (a .answer) (c .enum-told .given .0 .0) (a .at) (a .next) (c .enum-told .given .1))
 
 returns-2 : tie.Need-returns-2
 returns-2 c b l =
-    let a = c .before .before .args in
+    let start : tie.Start = search in
+    let a = start .args in
     ap (λ (p : ℕ). reading (answerPaper (a .answer)) p b l)
     (placed-refused (a .answer) (c .enum-told2 .given .0 .0) (c .enum-told2 .given .0 .1 .0) (a .at) (a .next) (c .enum-told2 .given .1))
 

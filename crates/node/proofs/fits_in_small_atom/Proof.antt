@@ -20,7 +20,8 @@ returns-2 c = search (tests, arith)
 returns-3 : tie.Need-returns-3
 unfolding fits unfit
 returns-3 c =
-    let z : getD (c .before .before .before .before .before .args .v .now) 0 0 ≡ 0 → ⊥ = omega arith in
+    let start : tie.Start = search in
+    let z : getD (start .args .v .now) 0 0 ≡ 0 → ⊥ = omega arith in
     search (tests, arith)
 
 returns-4 : tie.Need-returns-4
@@ -34,7 +35,8 @@ returns-5 c = search (tests, arith)
 returns-6 : tie.Need-returns-6
 unfolding fits unfit
 returns-6 c =
-    let z : getD (c .before .before .before .before .before .before .before .before .before .before .args .v .now) 0 0 ≤ 3 = omega arith in
+    let start : tie.Start = search in
+    let z : getD (start .args .v .now) 0 0 ≤ 3 = omega arith in
     search (tests, arith, c .big .ensures)
 
 returns-7 : tie.Need-returns-7

@@ -6,19 +6,27 @@ use Rattle.node.proofs.object_type.Tie as tie
 
 returns : tie.Need-returns
 unfolding objectTypeOf
-returns c = simp (← (c .before .before .view .ensures), c .enum-told .given .1)
+returns c =
+    let view : tie.After-view = search in
+    simp (← (view .view .ensures), c .enum-told .given .1)
 
 returns-2 : tie.Need-returns-2
 unfolding objectTypeOf
-returns-2 c = simp (← (c .before .before .view .ensures), c .enum-told2 .given .1)
+returns-2 c =
+    let view : tie.After-view = search in
+    simp (← (view .view .ensures), c .enum-told2 .given .1)
 
 returns-3 : tie.Need-returns-3
 unfolding objectTypeOf
-returns-3 c = simp (← (c .before .before .view .ensures), c .enum-told3 .given .1)
+returns-3 c =
+    let view : tie.After-view = search in
+    simp (← (view .view .ensures), c .enum-told3 .given .1)
 
 returns-4 : tie.Need-returns-4
 unfolding objectTypeOf
-returns-4 c = simp (← (c .before .before .view .ensures), c .enum-told4 .given .1)
+returns-4 c =
+    let view : tie.After-view = search in
+    simp (← (view .view .ensures), c .enum-told4 .given .1)
 
 pub object-type-spec : {M : Type 1} → statement M
 object-type-spec =

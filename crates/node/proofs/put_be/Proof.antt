@@ -28,24 +28,28 @@ slice-write-buf c = omega arith
 
 loop-again : tie.Need-loop-again Inv-loop μ-loop
 loop-again c =
-    let l = c .before .loop in
-    let a = c .before .before .args in
+    let (start, loop) : tie.Start Inv-loop μ-loop × tie.At-loop Inv-loop μ-loop = search in
+    let l = loop .loop in
+    let a = start .args in
     let more : (a .n - l .i) + 1 ≡ a .n - (l .i - 1) = omega arith in (
       ap (λ (k : ℕ). k / 256) (l .inv .0) ∙ rest-step (a .v) (a .n - l .i) ∙ ap (λ (k : ℕ). a .v / 256 ^ k) more,
       ap (λ (k : ℕ). set (l .buf) (l .i - 1) (k % 256)) (l .inv .0) ∙ ap (λ (b : List ℕ). set b (l .i - 1) (a .v / 256 ^ (a .n - l .i) % 256)) (l .inv .1)
-          ∙ put-step (now (a .buf)) (a .v) (a .n) (l .i) (omega arith) (omega arith) (c .before .before .pre),
+          ∙ put-step (now (a .buf)) (a .v) (a .n) (l .i) (omega arith) (omega arith) (start .pre),
       omega arith,
       simp length-set (omega arith),
     )
 
 same-length : tie.Need-same-length Inv-loop μ-loop
-same-length c = c .before .loop .inv .3
+same-length c =
+    let loop : tie.At-loop Inv-loop μ-loop = search in
+    loop .loop .inv .3
 
 returns : tie.Need-returns Inv-loop μ-loop
 returns c =
-    let l = c .before .loop in
+    let (start, loop) : tie.Start Inv-loop μ-loop × tie.At-loop Inv-loop μ-loop = search in
+    let l = loop .loop in
     let z : l .i ≡ 0 = omega arith in
-    put-all (now (c .before .before .args .buf)) (l .buf) (c .before .before .args .v) (c .before .before .args .n) (rw z at (l .inv .1))
+    put-all (now (start .args .buf)) (l .buf) (start .args .v) (start .args .n) (rw z at (l .inv .1))
 
 pub put-be-spec : {M : Type 1} → statement M
 put-be-spec =

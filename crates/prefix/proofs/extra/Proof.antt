@@ -25,10 +25,11 @@ mark-requires c κs = search needs
 
 returns : tie.Need-returns Inv-loop μ-loop
 returns c =
-    let l = c .before .before .before .loop in
+    let (start, loop, mark) : tie.Start Inv-loop μ-loop × tie.At-loop Inv-loop μ-loop × tie.After-mark Inv-loop μ-loop = search in
+    let l = loop .loop in
     let e : l .k + 1 ≡ suc (l .k) = omega arith in
-    let h : c .before .before .before .before .args .b < markOf (suc (l .k)) = rw e at (rw (c .before .mark .ensures) at (c .if1 .taken)) in
-    (walk-stop (λ (k : ℕ). markOf (suc k)) (c .before .before .before .before .args .b) (l .k) (omega arith) (l .inv .1) h, omega arith)
+    let h : start .args .b < markOf (suc (l .k)) = rw e at (rw (mark .mark .ensures) at (c .if1 .taken)) in
+    (walk-stop (λ (k : ℕ). markOf (suc k)) (start .args .b) (l .k) (omega arith) (l .inv .1) h, omega arith)
 
 add-k : tie.Need-add-k Inv-loop μ-loop
 add-k c = search needs
@@ -38,15 +39,17 @@ loop-less c = search needs
 
 loop-again : tie.Need-loop-again Inv-loop μ-loop
 loop-again c =
-    let l = c .before .before .before .loop in
+    let (start, loop, mark) : tie.Start Inv-loop μ-loop × tie.At-loop Inv-loop μ-loop × tie.After-mark Inv-loop μ-loop = search in
+    let l = loop .loop in
     let e : l .k + 1 ≡ suc (l .k) = omega arith in
-    let h : markOf (suc (l .k)) ≤ c .before .before .before .before .args .b = rw e at (rw (c .before .mark .ensures) at (c .if1 .left)) in
-    (omega arith, walk-on (λ (k : ℕ). markOf (suc k)) (c .before .before .before .before .args .b) (l .k) (omega arith) (l .inv .1) h)
+    let h : markOf (suc (l .k)) ≤ start .args .b = rw e at (rw (mark .mark .ensures) at (c .if1 .left)) in
+    (omega arith, walk-on (λ (k : ℕ). markOf (suc k)) (start .args .b) (l .k) (omega arith) (l .inv .1) h)
 
 returns-2 : tie.Need-returns-2 Inv-loop μ-loop
 returns-2 c =
-    let e : c .before .loop .k ≡ 4 = omega arith in
-    (walk-end (λ (k : ℕ). markOf (suc k)) (c .before .before .args .b) (rw e at (c .before .loop .inv .1)), omega arith)
+    let (start, loop) : tie.Start Inv-loop μ-loop × tie.At-loop Inv-loop μ-loop = search in
+    let e : loop .loop .k ≡ 4 = omega arith in
+    (walk-end (λ (k : ℕ). markOf (suc k)) (start .args .b) (rw e at (loop .loop .inv .1)), omega arith)
 
 pub extra-spec : {M : Type 1} → statement M
 extra-spec =

@@ -22,8 +22,9 @@ limit-requires c κs = search needs
 
 returns : tie.Need-returns Inv-loop μ-loop
 returns c =
-    let l = c .before .before .before .loop in
-    (walk-stop limitOf (c .before .before .before .before .args .len) (l .k) (omega arith) (l .inv .1) (rw (c .before .limit .ensures) at (c .if1 .taken)), omega arith)
+    let (start, loop, limit) : tie.Start Inv-loop μ-loop × tie.At-loop Inv-loop μ-loop × tie.After-limit Inv-loop μ-loop = search in
+    let l = loop .loop in
+    (walk-stop limitOf (start .args .len) (l .k) (omega arith) (l .inv .1) (rw (limit .limit .ensures) at (c .if1 .taken)), omega arith)
 
 add-k : tie.Need-add-k Inv-loop μ-loop
 add-k c = search needs
@@ -33,13 +34,15 @@ loop-less c = search needs
 
 loop-again : tie.Need-loop-again Inv-loop μ-loop
 loop-again c =
-    let l = c .before .before .before .loop in
-    (omega arith, walk-on limitOf (c .before .before .before .before .args .len) (l .k) (omega arith) (l .inv .1) (rw (c .before .limit .ensures) at (c .if1 .left)))
+    let (start, loop, limit) : tie.Start Inv-loop μ-loop × tie.At-loop Inv-loop μ-loop × tie.After-limit Inv-loop μ-loop = search in
+    let l = loop .loop in
+    (omega arith, walk-on limitOf (start .args .len) (l .k) (omega arith) (l .inv .1) (rw (limit .limit .ensures) at (c .if1 .left)))
 
 returns-2 : tie.Need-returns-2 Inv-loop μ-loop
 returns-2 c =
-    let e : c .before .loop .k ≡ 4 = omega arith in
-    (walk-end limitOf (c .before .before .args .len) (rw e at (c .before .loop .inv .1)), omega arith)
+    let (start, loop) : tie.Start Inv-loop μ-loop × tie.At-loop Inv-loop μ-loop = search in
+    let e : loop .loop .k ≡ 4 = omega arith in
+    (walk-end limitOf (start .args .len) (rw e at (loop .loop .inv .1)), omega arith)
 
 pub extra-for-spec : {M : Type 1} → statement M
 extra-for-spec =

@@ -15,7 +15,9 @@ array-copy-out-result : tie.Need-array-copy-out-result
 array-copy-out-result c = search needs
 
 returns : tie.Need-returns
-returns c = ap (λ (t : List (List ℕ)). getD t (c .before .args .k) []) (sym table) ∙ table-at (c .before .args .k) [] (c .before .pre)
+returns c =
+    let start : tie.Start = search in
+    ap (λ (t : List (List ℕ)). getD t (start .args .k) []) (sym table) ∙ table-at (start .args .k) [] (start .pre)
 
 pub row-spec : {M : Type 1} → statement M
 row-spec = tie.close (tie.spec mul-result array-copy-out-result returns)

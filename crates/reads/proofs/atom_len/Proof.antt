@@ -19,17 +19,23 @@ atoms-sound-requires : tie.Need-atoms-sound-requires
 atoms-sound-requires c κs = search needs
 
 atom-of-requires : tie.Need-atom-of-requires
-atom-of-requires c κs = omega (arith, atoms-lent _ _ _ (sym (c .before .atoms-sound .ensures) ∙ c .if1 .taken))
+atom-of-requires c κs =
+    let atoms-sound : tie.After-atoms-sound = search in
+    omega (arith, atoms-lent _ _ _ (sym (atoms-sound .atoms-sound .ensures) ∙ c .if1 .taken))
 
 enum-known-found : tie.Need-enum-known-found
 enum-known-found c = search needs
 
 sub-t14 : tie.Need-sub-t14
-sub-t14 c = omega (arith, atom-in _ _ _ _ (sym (c .before .before .before .atom-of .ensures) ∙ ap atomPaper (c .before .found .given .1)))
+sub-t14 c =
+    let (atom-of, found) : tie.After-atom-of × tie.After-found = search in
+    omega (arith, atom-in _ _ _ _ (sym (atom-of .atom-of .ensures) ∙ ap atomPaper (found .found .given .1)))
 
 returns : tie.Need-returns
 unfolding atomLen need
-returns c = simp (← (c .before .before .before .atom-of .ensures), c .before .found .given .1, ← (c .before .before .before .before .before .atoms-sound .ensures), c .before .before .before .before .if1 .taken)
+returns c =
+    let (atoms-sound, then1, atom-of, found) : tie.After-atoms-sound × tie.Then1 × tie.After-atom-of × tie.After-found = search in
+    simp (← (atom-of .atom-of .ensures), found .found .given .1, ← (atoms-sound .atoms-sound .ensures), then1 .if1 .taken)
 
 enum-known-found-2 : tie.Need-enum-known-found-2
 enum-known-found-2 c = search needs
@@ -39,18 +45,24 @@ len-for-value-requires c κs = search needs
 
 returns-2 : tie.Need-returns-2
 unfolding atomLen need
-returns-2 c = simp (c .len-for-value .ensures, ← (c .before .before .before .before .atom-of .ensures), c .before .before .found2 .given .1, ← (c .before .before .before .before .before .before .atoms-sound .ensures), c .before .before .before .before .before .if1 .taken)
+returns-2 c =
+    let (atoms-sound, then1, atom-of, found2) : tie.After-atoms-sound × tie.Then1 × tie.After-atom-of × tie.After-found2 = search in
+    simp (c .len-for-value .ensures, ← (atom-of .atom-of .ensures), found2 .found2 .given .1, ← (atoms-sound .atoms-sound .ensures), then1 .if1 .taken)
 
 enum-known-found-3 : tie.Need-enum-known-found-3
 enum-known-found-3 c = search needs
 
 returns-3 : tie.Need-returns-3
 unfolding atomLen need
-returns-3 c = simp (← (c .before .before .before .atom-of .ensures), c .before .found3 .given .1, ← (c .before .before .before .before .before .atoms-sound .ensures), c .before .before .before .before .if1 .taken)
+returns-3 c =
+    let (atoms-sound, then1, atom-of, found3) : tie.After-atoms-sound × tie.Then1 × tie.After-atom-of × tie.After-found3 = search in
+    simp (← (atom-of .atom-of .ensures), found3 .found3 .given .1, ← (atoms-sound .atoms-sound .ensures), then1 .if1 .taken)
 
 returns-4 : tie.Need-returns-4
 unfolding atomLen need
-returns-4 c = simp (← (c .before .atoms-sound .ensures), c .if1 .left)
+returns-4 c =
+    let atoms-sound : tie.After-atoms-sound = search in
+    simp (← (atoms-sound .atoms-sound .ensures), c .if1 .left)
 
 pub atom-len-spec : {M : Type 1} → statement M
 atom-len-spec =

@@ -15,7 +15,9 @@ returns c = simp (le-ltb _ _ (c .if1 .taken))
 
 returns-2 : tie.Need-returns-2
 unfolding need
-returns-2 c = simp (lt-ltb _ _ (c .before .before .if1 .left), lt-ltb _ _ (c .if2 .taken))
+returns-2 c =
+    let else1 : tie.Else1 = search in
+    simp (lt-ltb _ _ (else1 .if1 .left), lt-ltb _ _ (c .if2 .taken))
 
 mul-start : tie.Need-mul-start
 mul-start c = search needs
@@ -40,15 +42,21 @@ wide-requires-2 c κs = search needs
 
 returns-3 : tie.Need-returns-3
 unfolding need
-returns-3 c = simp (c .wide2 .ensures, c .before .before .before .wide .ensures, lt-ltb _ _ (c .before .before .before .before .before .before .before .before .before .before .if1 .left), le-ltb _ _ (c .before .before .before .before .before .before .before .before .if2 .left), ← (c .before .before .before .before .before .range-sound .ensures), c .before .before .before .before .if3 .taken, lt-ltb _ _ (rw (c .before .before .before .wide .ensures) at (c .before .if4 .taken)))
+returns-3 c =
+    let (else1, else2, range-sound, then3, wide, then4) : tie.Else1 × tie.Else2 × tie.After-range-sound × tie.Then3 × tie.After-wide × tie.Then4 = search in
+    simp (c .wide2 .ensures, wide .wide .ensures, lt-ltb _ _ (else1 .if1 .left), le-ltb _ _ (else2 .if2 .left), ← (range-sound .range-sound .ensures), then3 .if3 .taken, lt-ltb _ _ (rw (wide .wide .ensures) at (then4 .if4 .taken)))
 
 returns-4 : tie.Need-returns-4
 unfolding need
-returns-4 c = simp (lt-ltb _ _ (c .before .before .before .before .before .before .before .before .before .if1 .left), le-ltb _ _ (c .before .before .before .before .before .before .before .if2 .left), ← (c .before .before .before .before .range-sound .ensures), c .before .before .before .if3 .taken, le-ltb _ _ (rw (c .before .before .wide .ensures) at (c .if4 .left)))
+returns-4 c =
+    let (else1, else2, range-sound, then3, wide) : tie.Else1 × tie.Else2 × tie.After-range-sound × tie.Then3 × tie.After-wide = search in
+    simp (lt-ltb _ _ (else1 .if1 .left), le-ltb _ _ (else2 .if2 .left), ← (range-sound .range-sound .ensures), then3 .if3 .taken, le-ltb _ _ (rw (wide .wide .ensures) at (c .if4 .left)))
 
 returns-5 : tie.Need-returns-5
 unfolding need
-returns-5 c = simp (lt-ltb _ _ (c .before .before .before .before .before .before .if1 .left), le-ltb _ _ (c .before .before .before .before .if2 .left), ← (c .before .range-sound .ensures), c .if3 .left)
+returns-5 c =
+    let (else1, else2, range-sound) : tie.Else1 × tie.Else2 × tie.After-range-sound = search in
+    simp (lt-ltb _ _ (else1 .if1 .left), le-ltb _ _ (else2 .if2 .left), ← (range-sound .range-sound .ensures), c .if3 .left)
 
 pub bytes-status-spec : {M : Type 1} → statement M
 bytes-status-spec =

@@ -16,15 +16,21 @@ atoms-sound-requires : tie.Need-atoms-sound-requires
 atoms-sound-requires c κs = search needs
 
 status-of-requires : tie.Need-status-of-requires
-status-of-requires c κs = omega (arith, atoms-lent _ _ _ (sym (c .before .atoms-sound .ensures) ∙ c .if1 .taken))
+status-of-requires c κs =
+    let atoms-sound : tie.After-atoms-sound = search in
+    omega (arith, atoms-lent _ _ _ (sym (atoms-sound .atoms-sound .ensures) ∙ c .if1 .taken))
 
 returns : tie.Need-returns
 unfolding nodeStatus need
-returns c = simp (c .status-of .ensures, ← (c .before .before .atoms-sound .ensures), c .before .if1 .taken)
+returns c =
+    let (atoms-sound, then1) : tie.After-atoms-sound × tie.Then1 = search in
+    simp (c .status-of .ensures, ← (atoms-sound .atoms-sound .ensures), then1 .if1 .taken)
 
 returns-2 : tie.Need-returns-2
 unfolding nodeStatus need
-returns-2 c = simp (← (c .before .atoms-sound .ensures), c .if1 .left)
+returns-2 c =
+    let atoms-sound : tie.After-atoms-sound = search in
+    simp (← (atoms-sound .atoms-sound .ensures), c .if1 .left)
 
 pub checkpoint-node-status-spec : {M : Type 1} → statement M
 checkpoint-node-status-spec =

@@ -25,11 +25,15 @@ children-sound-requires c κs = search needs
 
 returns : tie.Need-returns
 unfolding childrenOf need
-returns c = simp (← (c .before .children-sound .ensures), c .if1 .taken)
+returns c =
+    let children-sound : tie.After-children-sound = search in
+    simp (← (children-sound .children-sound .ensures), c .if1 .taken)
 
 returns-2 : tie.Need-returns-2
 unfolding childrenOf need
-returns-2 c = simp (← (c .before .children-sound .ensures), c .if1 .left)
+returns-2 c =
+    let children-sound : tie.After-children-sound = search in
+    simp (← (children-sound .children-sound .ensures), c .if1 .left)
 
 pub children-spec : {M : Type 1} → statement M
 children-spec =

@@ -19,13 +19,19 @@ enum-known-found-2 : tie.Need-enum-known-found-2
 enum-known-found-2 c = search needs
 
 returns : tie.Need-returns
-returns c = simp (← (c .before .before .before .sexp .ensures), c .before .found .given .1)
+returns c =
+    let (sexp, found) : tie.After-sexp × tie.After-found = search in
+    simp (← (sexp .sexp .ensures), found .found .given .1)
 
 returns-2 : tie.Need-returns-2
-returns-2 c = simp (← (c .before .before .sexp .ensures), c .enum-told .given .1)
+returns-2 c =
+    let sexp : tie.After-sexp = search in
+    simp (← (sexp .sexp .ensures), c .enum-told .given .1)
 
 returns-3 : tie.Need-returns-3
-returns-3 c = simp (← (c .before .before .before .sexp .ensures), c .before .found2 .given .1)
+returns-3 c =
+    let (sexp, found2) : tie.After-sexp × tie.After-found2 = search in
+    simp (← (sexp .sexp .ensures), found2 .found2 .given .1)
 
 pub next-spec : {M : Type 1} → statement M
 next-spec =

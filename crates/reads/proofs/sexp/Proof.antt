@@ -16,15 +16,21 @@ pairs-sound-requires : tie.Need-pairs-sound-requires
 pairs-sound-requires c κs = search needs
 
 sexp-of-requires : tie.Need-sexp-of-requires
-sexp-of-requires c κs = omega (arith, pairs-lent _ _ _ (sym (c .before .pairs-sound .ensures) ∙ c .if1 .taken))
+sexp-of-requires c κs =
+    let pairs-sound : tie.After-pairs-sound = search in
+    omega (arith, pairs-lent _ _ _ (sym (pairs-sound .pairs-sound .ensures) ∙ c .if1 .taken))
 
 returns : tie.Need-returns
 unfolding sexp need
-returns c = simp (c .sexp-of .ensures, ← (c .before .before .pairs-sound .ensures), c .before .if1 .taken)
+returns c =
+    let (pairs-sound, then1) : tie.After-pairs-sound × tie.Then1 = search in
+    simp (c .sexp-of .ensures, ← (pairs-sound .pairs-sound .ensures), then1 .if1 .taken)
 
 returns-2 : tie.Need-returns-2
 unfolding sexp need
-returns-2 c = simp (← (c .before .pairs-sound .ensures), c .if1 .left)
+returns-2 c =
+    let pairs-sound : tie.After-pairs-sound = search in
+    simp (← (pairs-sound .pairs-sound .ensures), c .if1 .left)
 
 pub sexp-spec : {M : Type 1} → statement M
 sexp-spec = tie.close (tie.spec pairs-sound-requires sexp-of-requires returns returns-2)

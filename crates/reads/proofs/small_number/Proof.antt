@@ -20,26 +20,36 @@ store-sound-requires : tie.Need-store-sound-requires
 store-sound-requires c κs = search needs
 
 arg-requires : tie.Need-arg-requires
-arg-requires c κs = omega (arith, store-lent _ _ _ _ (sym (c .before .store-sound .ensures) ∙ c .if1 .taken))
+arg-requires c κs =
+    let store-sound : tie.After-store-sound = search in
+    omega (arith, store-lent _ _ _ _ (sym (store-sound .store-sound .ensures) ∙ c .if1 .taken))
 
 enum-told : tie.Need-enum-told
 enum-told c = search needs
 
 returns : tie.Need-returns
 unfolding smallNumber need
-returns c = simp (← (c .before .before .arg .ensures), c .enum-told .given .1, ← (c .before .before .before .before .store-sound .ensures), c .before .before .before .if1 .taken)
+returns c =
+    let (store-sound, then1, arg) : tie.After-store-sound × tie.Then1 × tie.After-arg = search in
+    simp (← (arg .arg .ensures), c .enum-told .given .1, ← (store-sound .store-sound .ensures), then1 .if1 .taken)
 
 enum-known-found : tie.Need-enum-known-found
 enum-known-found c = search needs
 
 sub-small-of : tie.Need-sub-small-of
-sub-small-of c = omega (arith, arg-in _ _ _ _ (sym (c .before .before .before .arg .ensures) ∙ ap argPaper (c .before .found .given .1)))
+sub-small-of c =
+    let (arg, found) : tie.After-arg × tie.After-found = search in
+    omega (arith, arg-in _ _ _ _ (sym (arg .arg .ensures) ∙ ap argPaper (found .found .given .1)))
 
 part-small-of-start : tie.Need-part-small-of-start
-part-small-of-start c = omega (arith, arg-in _ _ _ _ (sym (c .before .before .before .arg .ensures) ∙ ap argPaper (c .before .found .given .1)))
+part-small-of-start c =
+    let (arg, found) : tie.After-arg × tie.After-found = search in
+    omega (arith, arg-in _ _ _ _ (sym (arg .arg .ensures) ∙ ap argPaper (found .found .given .1)))
 
 part-small-of-end : tie.Need-part-small-of-end
-part-small-of-end c = omega (arith, store-lent _ _ _ _ (sym (c .before .before .before .before .before .store-sound .ensures) ∙ c .before .before .before .before .if1 .taken), arg-in _ _ _ _ (sym (c .before .before .before .arg .ensures) ∙ ap argPaper (c .before .found .given .1)))
+part-small-of-end c =
+    let (store-sound, then1, arg, found) : tie.After-store-sound × tie.Then1 × tie.After-arg × tie.After-found = search in
+    omega (arith, store-lent _ _ _ _ (sym (store-sound .store-sound .ensures) ∙ then1 .if1 .taken), arg-in _ _ _ _ (sym (arg .arg .ensures) ∙ ap argPaper (found .found .given .1)))
 
 small-of-requires : tie.Need-small-of-requires
 small-of-requires c κs = search needs
@@ -47,26 +57,33 @@ small-of-requires c κs = search needs
 returns-2 : tie.Need-returns-2
 unfolding smallNumber need
 returns-2 c =
-    let b = arg-in _ _ _ _ (sym (c .before .before .before .before .before .arg .ensures) ∙ ap argPaper (c .before .before .before .found .given .1)) in
-    simp (c .small-of .ensures, ← (c .before .before .before .before .before .arg .ensures), c .before .before .before .found .given .1, ← (c .before .before .before .before .before .before .before .store-sound .ensures), c .before .before .before .before .before .before .if1 .taken, part-slice _ _ (c .before .before .before .before .before .before .before .before .before .before .before .args .bytes .now) (b .order))
+    let (start, store-sound, then1, arg, found) : tie.Start × tie.After-store-sound × tie.Then1 × tie.After-arg × tie.After-found = search in
+    let b = arg-in _ _ _ _ (sym (arg .arg .ensures) ∙ ap argPaper (found .found .given .1)) in
+    simp (c .small-of .ensures, ← (arg .arg .ensures), found .found .given .1, ← (store-sound .store-sound .ensures), then1 .if1 .taken, part-slice _ _ (start .args .bytes .now) (b .order))
 
 enum-known-found-2 : tie.Need-enum-known-found-2
 enum-known-found-2 c = search needs
 
 returns-3 : tie.Need-returns-3
 unfolding smallNumber need
-returns-3 c = simp (← (c .before .before .before .arg .ensures), c .before .found2 .given .1, ← (c .before .before .before .before .before .store-sound .ensures), c .before .before .before .before .if1 .taken)
+returns-3 c =
+    let (store-sound, then1, arg, found2) : tie.After-store-sound × tie.Then1 × tie.After-arg × tie.After-found2 = search in
+    simp (← (arg .arg .ensures), found2 .found2 .given .1, ← (store-sound .store-sound .ensures), then1 .if1 .taken)
 
 enum-known-found-3 : tie.Need-enum-known-found-3
 enum-known-found-3 c = search needs
 
 returns-4 : tie.Need-returns-4
 unfolding smallNumber need
-returns-4 c = simp (← (c .before .before .before .arg .ensures), c .before .found3 .given .1, ← (c .before .before .before .before .before .store-sound .ensures), c .before .before .before .before .if1 .taken)
+returns-4 c =
+    let (store-sound, then1, arg, found3) : tie.After-store-sound × tie.Then1 × tie.After-arg × tie.After-found3 = search in
+    simp (← (arg .arg .ensures), found3 .found3 .given .1, ← (store-sound .store-sound .ensures), then1 .if1 .taken)
 
 returns-5 : tie.Need-returns-5
 unfolding smallNumber need
-returns-5 c = simp (← (c .before .store-sound .ensures), c .if1 .left)
+returns-5 c =
+    let store-sound : tie.After-store-sound = search in
+    simp (← (store-sound .store-sound .ensures), c .if1 .left)
 
 pub small-number-spec : {M : Type 1} → statement M
 small-number-spec =

@@ -16,10 +16,14 @@ enum-told : tie.Need-enum-told
 enum-told c = search needs
 
 returns : tie.Need-returns
-returns c = simp (← (c .before .before .before .fits-in-small-atom .ensures), c .before .found .given .1)
+returns c =
+    let (fits-in-small-atom, found) : tie.After-fits-in-small-atom × tie.After-found = search in
+    simp (← (fits-in-small-atom .fits-in-small-atom .ensures), found .found .given .1)
 
 returns-2 : tie.Need-returns-2
-returns-2 c = simp (← (c .before .before .fits-in-small-atom .ensures), c .enum-told .given .1)
+returns-2 c =
+    let fits-in-small-atom : tie.After-fits-in-small-atom = search in
+    simp (← (fits-in-small-atom .fits-in-small-atom .ensures), c .enum-told .given .1)
 
 pub small-of-spec : {M : Type 1} → statement M
 small-of-spec =

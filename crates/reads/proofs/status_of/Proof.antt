@@ -17,11 +17,15 @@ enum-known-view c = search needs
 
 returns : tie.Need-returns
 unfolding need
-returns c = simp (← (c .before .before .before .before .before .view .ensures), c .before .before .before .view2 .given .1, le-ltb _ _ (c .if1 .taken))
+returns c =
+    let (view, view2) : tie.After-view × tie.After-view2 = search in
+    simp (← (view .view .ensures), view2 .view2 .given .1, le-ltb _ _ (c .if1 .taken))
 
 returns-2 : tie.Need-returns-2
 unfolding need
-returns-2 c = simp (← (c .before .before .before .before .before .before .before .view .ensures), c .before .before .before .before .before .view2 .given .1, lt-ltb _ _ (c .before .before .if1 .left), lt-ltb _ _ (c .if2 .taken))
+returns-2 c =
+    let (view, view2, else1) : tie.After-view × tie.After-view2 × tie.Else1 = search in
+    simp (← (view .view .ensures), view2 .view2 .given .1, lt-ltb _ _ (else1 .if1 .left), lt-ltb _ _ (c .if2 .taken))
 
 enum-known-view-2 : tie.Need-enum-known-view-2
 enum-known-view-2 c = search needs
@@ -37,16 +41,24 @@ enum-told-2 c = search needs
 
 returns-3 : tie.Need-returns-3
 unfolding need
-returns-3 c = simp (← (c .before .before .before .before .before .before .before .view .ensures), c .before .before .before .before .before .view2 .given .1, lt-ltb _ _ (c .before .before .if1 .left), le-ltb _ _ (c .if2 .left))
+returns-3 c =
+    let (view, view2, else1) : tie.After-view × tie.After-view2 × tie.Else1 = search in
+    simp (← (view .view .ensures), view2 .view2 .given .1, lt-ltb _ _ (else1 .if1 .left), le-ltb _ _ (c .if2 .left))
 
 returns-4 : tie.Need-returns-4
-returns-4 c = simp (c .bytes-status .ensures, ← (c .before .before .before .before .view .ensures), c .before .before .view3 .given .1)
+returns-4 c =
+    let (view, view3) : tie.After-view × tie.After-view3 = search in
+    simp (c .bytes-status .ensures, ← (view .view .ensures), view3 .view3 .given .1)
 
 returns-5 : tie.Need-returns-5
-returns-5 c = simp (← (c .before .before .view .ensures), c .enum-told .given .1)
+returns-5 c =
+    let view : tie.After-view = search in
+    simp (← (view .view .ensures), c .enum-told .given .1)
 
 returns-6 : tie.Need-returns-6
-returns-6 c = simp (← (c .before .before .view .ensures), c .enum-told2 .given .1)
+returns-6 c =
+    let view : tie.After-view = search in
+    simp (← (view .view .ensures), c .enum-told2 .given .1)
 
 pub status-of-spec : {M : Type 1} → statement M
 status-of-spec =

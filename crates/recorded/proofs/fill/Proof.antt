@@ -10,7 +10,9 @@ slice-relend-prefix-read-full : tie.Need-slice-relend-prefix-read-full
 slice-relend-prefix-read-full c = search needs
 
 slice-aggregate-read-full : tie.Need-slice-aggregate-read-full
-slice-aggregate-read-full c = sym (length-take-le (c .before .before .args .n) (now (c .before .before .args .buf)) (c .before .before .pre))
+slice-aggregate-read-full c =
+    let start : tie.Start = search in
+    sym (length-take-le (start .args .n) (now (start .args .buf)) (start .pre))
 
 read-full-requires : tie.Need-read-full-requires
 read-full-requires c κs = search needs

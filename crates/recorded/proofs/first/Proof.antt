@@ -8,7 +8,9 @@ use Rattle.recorded.proofs.first.Statement.{statement}
 use Rattle.recorded.proofs.first.Tie as tie
 
 slice-aggregate-run : tie.Need-slice-aggregate-run
-slice-aggregate-run c = sym (length-take-le (c .before .before .before .args .n) (now (c .before .before .before .args .buf)) (omega arith))
+slice-aggregate-run c =
+    let start : tie.Start = search in
+    sym (length-take-le (start .args .n) (now (start .args .buf)) (omega arith))
 
 run-requires : tie.Need-run-requires
 run-requires c κs = search needs

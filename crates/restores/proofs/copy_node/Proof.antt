@@ -19,10 +19,13 @@ use Rattle.state.proofs.record.cut.Reads as cut-reads
 use Rattle.state.proofs.record.less_ghosts.Reads as less-ghosts-reads
 
 -- what the array holds: the node's bytes
-saved : (c : tie.After-copy) → let s = c .before .before .before .before .before .before .before .args in take (s .end - s .start) (c .copy .last .1 .0) ≡ slice (s .start) (s .end) (s .bytes .now)
+saved : (c : tie.After-copy) →
+    let start : tie.Start = search in
+    let s = start .args in take (s .end - s .start) (c .copy .last .1 .0) ≡ slice (s .start) (s .end) (s .bytes .now)
 saved c =
-    let s = c .before .before .before .before .before .before .before .args in
-    let p = c .before .before .before .before .before .before .before .pre in
+    let start : tie.Start = search in
+    let s = start .args in
+    let p = start .pre in
     saved-bytes (s .start) (s .end) (s .bytes .now) _ _ (p .order) (omega (arith, p .inside, p .fit)) (c .copy .ensures .1)
 
 sub-len : tie.Need-sub-len
@@ -47,35 +50,44 @@ cut-requires : tie.Need-cut-requires
 cut-requires c κs = search needs
 
 less-ghosts-requires : tie.Need-less-ghosts-requires
-less-ghosts-requires c κs = simp (c .cut .ensures) (omega (arith, c .before .before .before .before .before .before .before .before .before .pre .later), omega (arith, c .before .before .before .before .before .before .before .before .before .pre))
+less-ghosts-requires c κs =
+    let start : tie.Start = search in
+    simp (c .cut .ensures) (omega (arith, start .pre .later), omega (arith, start .pre))
 
 array-share-prefix-saved : tie.Need-array-share-prefix-saved
 array-share-prefix-saved c = search needs
 
 slice-aggregate-small-or : tie.Need-slice-aggregate-small-or
 slice-aggregate-small-or c =
-    let s = c .before .before .before .before .before .before .before .before .before .before .before .before .before .before .args in
-    let p = c .before .before .before .before .before .before .before .before .before .before .before .before .before .before .pre in
-    sym (ap length (saved (c .before .before .before .before .before .before .before)) ∙ length-slice (s .start) (s .end) (s .bytes .now) (omega (arith, p .inside, p .fit)))
+    let start : tie.Start = search in
+    let s = start .args in
+    let p = start .pre in
+    sym (ap length (saved (search)) ∙ length-slice (s .start) (s .end) (s .bytes .now) (omega (arith, p .inside, p .fit)))
 
 small-or-requires : tie.Need-small-or-requires
 small-or-requires c κs =
-    let p = c .before .before .before .before .before .before .before .before .before .before .before .before .before .before .pre in
-    simp (c .before .before .before .before .less-ghosts .ensures, c .before .before .before .before .before .cut .ensures) (omega (arith, p), omega (arith, p))
+    let (start, at-cut, less-ghosts) : tie.Start × tie.After-cut × tie.After-less-ghosts = search in
+    let p = start .pre in
+    simp (less-ghosts .less-ghosts .ensures, at-cut .cut .ensures) (omega (arith, p), omega (arith, p))
+
+abbrev start-of : tie.After-copy → tie.Start
+start-of c = search
 
 returns : tie.Need-returns
 returns c =
-    let s = c .before .before .before .before .before .before .before .before .before .before .before .before .before .before .before .before .before .before .before .before .before .before .args in
-    let p = c .before .before .before .before .before .before .before .before .before .before .before .before .before .before .before .before .before .before .before .before .before .before .pre in
+    let (copy, at-cut, less-ghosts, small-or) : tie.After-copy × tie.After-cut × tie.After-less-ghosts × tie.After-small-or = search in
+    let start = start-of copy in
+    let s = start .args in
+    let p = start .pre in
     let st = store (s .bytes .now) (atomSlots (s .starts .now) (s .ends .now)) in
     let v = slice (s .start) (s .end) (s .bytes .now) in
-    let less = c .before .before .before .before .before .before .before .before .before .before .before .before .less-ghosts .ensures ∙ ap (lessGhosts (s .end - s .start)) (c .before .before .before .before .before .before .before .before .before .before .before .before .before .cut .ensures) in
+    let less = less-ghosts .less-ghosts .ensures ∙ ap (lessGhosts (s .end - s .start)) (at-cut .cut .ensures) in
     let cut-less = lessGhosts (s .end - s .start) (cut (s .k) (s .a)) in
     let len : length v ≡ s .end - s .start = length-slice (s .start) (s .end) (s .bytes .now) (omega (arith, p .inside, p .fit)) in
     let accepts = p .accepts in
     let put = passed-on (atomTests cut-less (length v) st) cut-less st (λ d. atomPut (fits v) cut-less v st) _ accepts in
-    let e = c .before .before .before .before .before .before .before .small-or .ensures ∙ ap (λ b. smallOr (fits (take (s .end - s .start) (c .before .before .before .before .before .before .before .before .before .before .before .before .before .before .before .copy .last .1 .0))) (s .end - s .start) b (take (s .end - s .start) (c .before .before .before .before .before .before .before .before .before .before .before .before .before .before .before .copy .last .1 .0)) st) less ∙ ap (λ w. smallOr (fits w) (s .end - s .start) cut-less w st) (saved (c .before .before .before .before .before .before .before .before .before .before .before .before .before .before .before)) ∙ ap (λ n. smallOr (fits v) n cut-less v st) (sym len) ∙ sym put in
-    settled (s .a) st _ (c .before .before .before .before .before .before .before .small-or .result) (c .settle .result) _ _ e accepts (c .settle .ensures .0) (c .settle .ensures .1)
+    let e = small-or .small-or .ensures ∙ ap (λ b. smallOr (fits (take (s .end - s .start) (copy .copy .last .1 .0))) (s .end - s .start) b (take (s .end - s .start) (copy .copy .last .1 .0)) st) less ∙ ap (λ w. smallOr (fits w) (s .end - s .start) cut-less w st) (saved copy) ∙ ap (λ n. smallOr (fits v) n cut-less v st) (sym len) ∙ sym put in
+    settled (s .a) st _ (small-or .small-or .result) (c .settle .result) _ _ e accepts (c .settle .ensures .0) (c .settle .ensures .1)
 
 pub copy-node-spec : {M : Type 1} → statement M
 copy-node-spec =

@@ -20,31 +20,40 @@ slots-sound-requires : tie.Need-slots-sound-requires
 slots-sound-requires c κs = search needs
 
 usable-requires : tie.Need-usable-requires
-usable-requires c κs = omega (arith, slots-lent _ _ _ _ _ (sym (c .before .slots-sound .ensures) ∙ c .if1 .taken))
+usable-requires c κs =
+    let slots-sound : tie.After-slots-sound = search in
+    omega (arith, slots-lent _ _ _ _ _ (sym (slots-sound .slots-sound .ensures) ∙ c .if1 .taken))
 
 cut-requires : tie.Need-cut-requires
 cut-requires c κs =
-    let s = c .before .before .before .before .before .before .before .before .args in
-    let u = usable→ (s .k) (s .a) (atomSlots (s .starts .now) (s .ends .now)) (pairSlots (s .firsts .now) (s .rests .now)) (sym (c .before .usable .ensures) ∙ c .if2 .taken) in
-    ((u .atoms, u .pairs, u .bytes), omega (arith, slots-lent _ _ _ _ _ (sym (c .before .before .before .slots-sound .ensures) ∙ c .before .before .if1 .taken)))
+    let (start, slots-sound, then1, usable) : tie.Start × tie.After-slots-sound × tie.Then1 × tie.After-usable = search in
+    let s = start .args in
+    let u = usable→ (s .k) (s .a) (atomSlots (s .starts .now) (s .ends .now)) (pairSlots (s .firsts .now) (s .rests .now)) (sym (usable .usable .ensures) ∙ c .if2 .taken) in
+    ((u .atoms, u .pairs, u .bytes), omega (arith, slots-lent _ _ _ _ _ (sym (slots-sound .slots-sound .ensures) ∙ then1 .if1 .taken)))
 
 returns : tie.Need-returns
 unfolding restoreTransparent need
-returns c = simp (c .cut .ensures, ← (c .before .before .before .before .slots-sound .ensures), c .before .before .before .if1 .taken, ← (c .before .before .usable .ensures), c .before .if2 .taken)
+returns c =
+    let (slots-sound, then1, usable, then2) : tie.After-slots-sound × tie.Then1 × tie.After-usable × tie.Then2 = search in
+    simp (c .cut .ensures, ← (slots-sound .slots-sound .ensures), then1 .if1 .taken, ← (usable .usable .ensures), then2 .if2 .taken)
 
 refused-requires : tie.Need-refused-requires
 refused-requires c κs = search needs
 
 returns-2 : tie.Need-returns-2
 unfolding restoreTransparent need
-returns-2 c = simp (c .refused .ensures .0, c .refused .ensures .1, ← (c .before .before .before .before .slots-sound .ensures), c .before .before .before .if1 .taken, ← (c .before .before .usable .ensures), c .before .if2 .left)
+returns-2 c =
+    let (slots-sound, then1, usable, else2) : tie.After-slots-sound × tie.Then1 × tie.After-usable × tie.Else2 = search in
+    simp (c .refused .ensures .0, c .refused .ensures .1, ← (slots-sound .slots-sound .ensures), then1 .if1 .taken, ← (usable .usable .ensures), else2 .if2 .left)
 
 refused-requires-2 : tie.Need-refused-requires-2
 refused-requires-2 c κs = search needs
 
 returns-3 : tie.Need-returns-3
 unfolding restoreTransparent need
-returns-3 c = simp (c .refused2 .ensures .0, c .refused2 .ensures .1, ← (c .before .before .slots-sound .ensures), c .before .if1 .left)
+returns-3 c =
+    let (slots-sound, else1) : tie.After-slots-sound × tie.Else1 = search in
+    simp (c .refused2 .ensures .0, c .refused2 .ensures .1, ← (slots-sound .slots-sound .ensures), else1 .if1 .left)
 
 pub restore-transparent-checkpoint-spec : {M : Type 1} → statement M
 restore-transparent-checkpoint-spec =

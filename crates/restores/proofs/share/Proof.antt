@@ -32,10 +32,14 @@ cut-requires : tie.Need-cut-requires
 cut-requires c κs = search needs
 
 less-ghosts-requires : tie.Need-less-ghosts-requires
-less-ghosts-requires c κs = simp (c .cut .ensures) (omega (arith, c .before .before .before .pre .later), omega arith)
+less-ghosts-requires c κs =
+    let start : tie.Start = search in
+    simp (c .cut .ensures) (omega (arith, start .pre .later), omega arith)
 
 used-atom-requires : tie.Need-used-atom-requires
-used-atom-requires c κs = simp (c .less-ghosts .ensures, c .before .cut .ensures) (omega (arith, c .before .before .before .before .pre .cuts .limits, c .before .before .before .before .pre .later), omega (arith, c .before .before .before .before .pre .cuts))
+used-atom-requires c κs =
+    let (start, cut) : tie.Start × tie.After-cut = search in
+    simp (c .less-ghosts .ensures, cut .cut .ensures) (omega (arith, start .pre .cuts .limits, start .pre .later), omega (arith, start .pre .cuts))
 
 cast-new : tie.Need-cast-new
 cast-new c = search needs
@@ -50,7 +54,9 @@ same-length-2 : tie.Need-same-length-2
 same-length-2 c = search needs
 
 returns : tie.Need-returns
-returns c = λ b. simp (c .new .ensures, c .before .used-atom .ensures, c .before .before .less-ghosts .ensures, c .before .before .before .cut .ensures)
+returns c =
+    let (cut, less-ghosts, used-atom) : tie.After-cut × tie.After-less-ghosts × tie.After-used-atom = search in
+    λ b. simp (c .new .ensures, used-atom .used-atom .ensures, less-ghosts .less-ghosts .ensures, cut .cut .ensures)
 
 pub share-spec : {M : Type 1} → statement M
 share-spec =

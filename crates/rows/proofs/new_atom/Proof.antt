@@ -23,7 +23,9 @@ same-length-3 : tie.Need-same-length-3
 same-length-3 c = search needs
 
 returns : tie.Need-returns
-returns c = rowed-by _ _ (c .of-record .ensures) (rw (c .before .before .before .before .before .before .before .before .before .before .before .«record» .ensures) at (c .before .before .before .before .before .before .before .new-atom .ensures))
+returns c =
+    let (at-record, new-atom) : tie.After-record × tie.After-new-atom = search in
+    rowed-by _ _ (c .of-record .ensures) (rw (at-record .«record» .ensures) at (new-atom .new-atom .ensures))
 
 pub new-atom-spec : {M : Type 1} → statement M
 new-atom-spec =

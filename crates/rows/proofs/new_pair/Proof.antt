@@ -20,7 +20,9 @@ same-length-2 : tie.Need-same-length-2
 same-length-2 c = search needs
 
 returns : tie.Need-returns
-returns c = rowed-by _ _ (c .of-record .ensures) (rw (c .before .before .before .before .before .before .before .before .«record» .ensures) at (c .before .before .before .before .before .new-pair .ensures))
+returns c =
+    let (at-record, new-pair) : tie.After-record × tie.After-new-pair = search in
+    rowed-by _ _ (c .of-record .ensures) (rw (at-record .«record» .ensures) at (new-pair .new-pair .ensures))
 
 pub new-pair-spec : {M : Type 1} → statement M
 new-pair-spec =

@@ -10,7 +10,7 @@ use Rattle.rules.specs.Paper.{codeNumber, numberPaper}
 use Rattle.rules.specs.Save.{formOf}
 use Rattle.save.proofs.Forms.{told, seen, buffer-in, number-in, length-fits, form-deep, measured-buffer, measured-number, measured-refused, measured-full, measured-first, measured-rest, measured-pair}
 use borrow.Author.Needs.{needs}
-use borrow.Fn.Kinds.{In}
+use borrow.Fn.Kinds.{In, Out}
 use borrow.Fn.PlainCycle.{Measures, is, falls, and}
 use Rattle.save.proofs.measure.Reads as measure
 use Rattle.save.proofs.measure.Kinds as measure-kinds
@@ -40,42 +40,77 @@ module _ (t : ℕ) where
   abbrev five : measure-lts.Start (claims t) (measure-at t) measure.Post → Lists
   five s = lists (s .args .bytes .now) (atomSlots (s .args .starts .now) (s .args .ends .now)) (pairSlots (s .args .firsts .now) (s .args .rests .now))
 
+  abbrev in-measure : (measure-lts.Claims → In 5 measure-kinds.ps → Out 5 measure-kinds.ps measure-kinds.r → Type 0) → Type 0
+  in-measure place = place (claims t) (measure-at t) measure.Post
+
   -- what a node shows, in each arm
-  buffer-seen : (c : measure-lts.After-known-told (claims t) (measure-at t) measure.Post)
-      → let s = c .before .before .before .before .before .before .before .before .before .before in let g = c .before .found .given .0 in says (buffer (g .0) (g .1 .0)) ≡ visited (s .args .a) (five s .pairs) (arg (s .args .a) (five s .atoms) (s .args .n))
-  buffer-seen c = let s = c .before .before .before .before .before .before .before .before .before .before in seen (s .args .a) (five s) (s .args .n) (s .pre .1) (c .before .before .before .node .result) _ (c .before .before .before .node .ensures) (c .before .found .given .1)
+  buffer-seen : (c : measure-lts.After-found (claims t) (measure-at t) measure.Post)
+      →
+      let s : in-measure measure-lts.Start = search in
+      let g = c .found .given .0 in says (buffer (g .0) (g .1 .0)) ≡ visited (s .args .a) (five s .pairs) (arg (s .args .a) (five s .atoms) (s .args .n))
+  buffer-seen c =
+      let (s, node) : in-measure measure-lts.Start × in-measure measure-lts.After-node = search in
+      seen (s .args .a) (five s) (s .args .n) (s .pre .1) (node .node .result) _ (node .node .ensures) (c .found .given .1)
 
-  buffer-room : (c : measure-lts.After-known-told (claims t) (measure-at t) measure.Post)
-      → let g = c .before .found .given .0 in (g .0 ≤ g .1 .0) × (g .1 .0 ≤ length (c .before .before .before .before .before .before .before .before .before .before .args .bytes .now)) × (g .1 .0 ≤ 4294967295)
-  buffer-room c = let s = c .before .before .before .before .before .before .before .before .before .before in let g = c .before .found .given .0 in buffer-in (s .args .a) (five s) (s .args .n) (s .pre .1) (g .0) (g .1 .0) (buffer-seen c)
+  buffer-room : (c : measure-lts.After-found (claims t) (measure-at t) measure.Post)
+      →
+      let start : in-measure measure-lts.Start = search in
+      let g = c .found .given .0 in (g .0 ≤ g .1 .0) × (g .1 .0 ≤ length (start .args .bytes .now)) × (g .1 .0 ≤ 4294967295)
+  buffer-room c =
+      let s : in-measure measure-lts.Start = search in
+      let g = c .found .given .0 in buffer-in (s .args .a) (five s) (s .args .n) (s .pre .1) (g .0) (g .1 .0) (buffer-seen (c))
 
-  number-seen : (c : measure-lts.After-known-told2 (claims t) (measure-at t) measure.Post)
-      → let s = c .before .before .before .before .before .before .before .before .before .before in says (number (c .before .found2 .given .0 .0)) ≡ visited (s .args .a) (five s .pairs) (arg (s .args .a) (five s .atoms) (s .args .n))
-  number-seen c = let s = c .before .before .before .before .before .before .before .before .before .before in seen (s .args .a) (five s) (s .args .n) (s .pre .1) (c .before .before .before .node .result) _ (c .before .before .before .node .ensures) (c .before .found2 .given .1)
+  number-seen : (c : measure-lts.After-found2 (claims t) (measure-at t) measure.Post)
+      →
+      let s : in-measure measure-lts.Start = search in
+      says (number (c .found2 .given .0 .0)) ≡ visited (s .args .a) (five s .pairs) (arg (s .args .a) (five s .atoms) (s .args .n))
+  number-seen c =
+      let (s, node) : in-measure measure-lts.Start × in-measure measure-lts.After-node = search in
+      seen (s .args .a) (five s) (s .args .n) (s .pre .1) (node .node .result) _ (node .node .ensures) (c .found2 .given .1)
 
-  pair-seen : (c : measure-lts.After-known-told4 (claims t) (measure-at t) measure.Post)
-      → let s = c .before .before .before .before .before .before .before .before .before .before in let g = c .before .found4 .given .0 in says (children (g .0) (g .1 .0)) ≡ visited (s .args .a) (five s .pairs) (arg (s .args .a) (five s .atoms) (s .args .n))
-  pair-seen c = let s = c .before .before .before .before .before .before .before .before .before .before in seen (s .args .a) (five s) (s .args .n) (s .pre .1) (c .before .before .before .node .result) _ (c .before .before .before .node .ensures) (c .before .found4 .given .1)
+  pair-seen : (c : measure-lts.After-found4 (claims t) (measure-at t) measure.Post)
+      →
+      let s : in-measure measure-lts.Start = search in
+      let g = c .found4 .given .0 in says (children (g .0) (g .1 .0)) ≡ visited (s .args .a) (five s .pairs) (arg (s .args .a) (five s .atoms) (s .args .n))
+  pair-seen c =
+      let (s, node) : in-measure measure-lts.Start × in-measure measure-lts.After-node = search in
+      seen (s .args .a) (five s) (s .args .n) (s .pre .1) (node .node .result) _ (node .node .ensures) (c .found4 .given .1)
 
   -- the length of first, and of rest
-  one-is : (c : measure-lts.After-known-told5 (claims t) (measure-at t) measure.Post)
-      → let s = c .before .before .before .before .before .before .before .before .before .before .before .before .before .before .before in says (c .before .one .given .0 .0) ≡ saysOf length (formOf (s .args .a) (five s) (s .args .levels - 1) (s .args .room - 1) (c .before .before .before .before .before .before .found4 .given .0 .0))
-  one-is c = told (c .before .one .given .1) (c .before .before .before .measure .ensures)
+  one-is : (c : measure-lts.After-one (claims t) (measure-at t) measure.Post)
+      →
+      let (s, found4) : in-measure measure-lts.Start × in-measure measure-lts.After-found4 = search in
+      says (c .one .given .0 .0) ≡ saysOf length (formOf (s .args .a) (five s) (s .args .levels - 1) (s .args .room - 1) (found4 .found4 .given .0 .0))
+  one-is c =
+      let at-measure : in-measure measure-lts.After-measure = search in
+      told (c .one .given .1) (at-measure .measure .ensures)
 
-  one-fits : (c : measure-lts.After-known-told5 (claims t) (measure-at t) measure.Post) → c .before .one .given .0 .0 ≤ c .before .before .before .before .before .before .before .before .before .before .before .before .before .before .before .args .room - 1
-  one-fits c = let s = c .before .before .before .before .before .before .before .before .before .before .before .before .before .before .before in length-fits (s .args .a) (five s) (s .args .levels - 1) (s .args .room - 1) (c .before .before .before .before .before .before .found4 .given .0 .0) (c .before .one .given .0 .0) (one-is c)
+  one-fits : (c : measure-lts.After-one (claims t) (measure-at t) measure.Post) →
+      let start : in-measure measure-lts.Start = search in
+      c .one .given .0 .0 ≤ start .args .room - 1
+  one-fits c =
+      let (s, found4) : in-measure measure-lts.Start × in-measure measure-lts.After-found4 = search in
+      length-fits (s .args .a) (five s) (s .args .levels - 1) (s .args .room - 1) (found4 .found4 .given .0 .0) (c .one .given .0 .0) (one-is (c))
 
-  other-is : (c : measure-lts.After-known-told6 (claims t) (measure-at t) measure.Post)
-      → let s = c .before .before .before .before .before .before .before .before .before .before .before .before .before .before .before .before .before .before .before in says (c .before .other .given .0 .0) ≡ saysOf length (formOf (s .args .a) (five s) (s .args .levels - 1) (s .args .room - 1 - c .before .before .before .before .before .one .given .0 .0) (c .before .before .before .before .before .before .before .before .before .before .found4 .given .0 .1 .0))
-  other-is c = told (c .before .other .given .1) (c .before .before .before .measure2 .ensures)
+  other-is : (c : measure-lts.After-other (claims t) (measure-at t) measure.Post)
+      →
+      let (s, found4, one) : in-measure measure-lts.Start × in-measure measure-lts.After-found4 × in-measure measure-lts.After-one = search in
+      says (c .other .given .0 .0) ≡ saysOf length (formOf (s .args .a) (five s) (s .args .levels - 1) (s .args .room - 1 - one .one .given .0 .0) (found4 .found4 .given .0 .1 .0))
+  other-is c =
+      let measure2 : in-measure measure-lts.After-measure2 = search in
+      told (c .other .given .1) (measure2 .measure2 .ensures)
 
-  other-fits : (c : measure-lts.After-known-told6 (claims t) (measure-at t) measure.Post) → c .before .other .given .0 .0 ≤ c .before .before .before .before .before .before .before .before .before .before .before .before .before .before .before .before .before .before .before .args .room - 1 - c .before .before .before .before .before .one .given .0 .0
+  other-fits : (c : measure-lts.After-other (claims t) (measure-at t) measure.Post) →
+      let (start, one) : in-measure measure-lts.Start × in-measure measure-lts.After-one = search in
+      c .other .given .0 .0 ≤ start .args .room - 1 - one .one .given .0 .0
   other-fits c =
-      let s = c .before .before .before .before .before .before .before .before .before .before .before .before .before .before .before .before .before .before .before in
-      length-fits (s .args .a) (five s) (s .args .levels - 1) (s .args .room - 1 - c .before .before .before .before .before .one .given .0 .0) (c .before .before .before .before .before .before .before .before .before .before .found4 .given .0 .1 .0) (c .before .other .given .0 .0) (other-is c)
+      let (s, found4, one) : in-measure measure-lts.Start × in-measure measure-lts.After-found4 × in-measure measure-lts.After-one = search in
+      length-fits (s .args .a) (five s) (s .args .levels - 1) (s .args .room - 1 - one .one .given .0 .0) (found4 .found4 .given .0 .1 .0) (c .other .given .0 .0) (other-is (c))
 
   returns : measure-lts.Need-returns (claims t) (measure-at t) measure.Post
-  returns c = let s = c .before .before .before .before .before .before in sym (ap (saysOf length) (form-deep (s .args .a) (five s) (s .args .levels) (s .args .room) (s .args .n) (c .if1 .taken)))
+  returns c =
+      let s : in-measure measure-lts.Start = search in
+      sym (ap (saysOf length) (form-deep (s .args .a) (five s) (s .args .levels) (s .args .room) (s .args .n) (c .if1 .taken)))
 
   node-requires : measure-lts.Need-node-requires (claims t) (measure-at t) measure.Post
   node-requires c κs = search needs
@@ -84,16 +119,16 @@ module _ (t : ℕ) where
   enum-known-found c = search needs
 
   sub-form-len : measure-lts.Need-sub-form-len (claims t) (measure-at t) measure.Post
-  sub-form-len c = buffer-room c .0
+  sub-form-len c = buffer-room (search) .0
 
   part-form-len-start : measure-lts.Need-part-form-len-start (claims t) (measure-at t) measure.Post
-  part-form-len-start c = omega (arith, buffer-room c)
+  part-form-len-start c = omega (arith, buffer-room (search))
 
   part-form-len-end : measure-lts.Need-part-form-len-end (claims t) (measure-at t) measure.Post
-  part-form-len-end c = omega (arith, buffer-room c)
+  part-form-len-end c = omega (arith, buffer-room (search))
 
   form-len-requires : measure-lts.Need-form-len-requires (claims t) (measure-at t) measure.Post
-  form-len-requires c κs = simp (length-take, length-drop) (omega (arith, buffer-room (c .before)))
+  form-len-requires c κs = simp (length-take, length-drop) (omega (arith, buffer-room (search)))
 
   fitted-requires : measure-lts.Need-fitted-requires (claims t) (measure-at t) measure.Post
   fitted-requires c κs = search needs
@@ -102,7 +137,9 @@ module _ (t : ℕ) where
   enum-known-found-2 c = search needs
 
   small-len-requires : measure-lts.Need-small-len-requires (claims t) (measure-at t) measure.Post
-  small-len-requires c κs = let s = c .before .before .before .before .before .before .before .before .before .before in number-in (s .args .a) (five s) (s .args .n) (s .pre .1) (c .before .found2 .given .0 .0) (number-seen c)
+  small-len-requires c κs =
+      let (s, found2) : in-measure measure-lts.Start × in-measure measure-lts.After-found2 = search in
+      number-in (s .args .a) (five s) (s .args .n) (s .pre .1) (found2 .found2 .given .0 .0) (number-seen found2)
 
   fitted-requires-2 : measure-lts.Need-fitted-requires-2 (claims t) (measure-at t) measure.Post
   fitted-requires-2 c κs = search needs
@@ -115,9 +152,9 @@ module _ (t : ℕ) where
 
   returns-2 : measure-lts.Need-returns-2 (claims t) (measure-at t) measure.Post
   returns-2 c =
-      let s = c .before .before .before .before .before .before .before .before .before .before .before in
-      let g = c .before .before .found4 .given .0 in
-      measured-full (s .args .a) (five s) (s .args .levels) (s .args .room) (s .args .n) (c .before .before .before .before .before .if1 .left) (g .0) (g .1 .0) (pair-seen (c .before)) (c .if2 .taken)
+      let (s, else1, found4) : in-measure measure-lts.Start × in-measure measure-lts.Else1 × in-measure measure-lts.After-found4 = search in
+      let g = found4 .found4 .given .0 in
+      measured-full (s .args .a) (five s) (s .args .levels) (s .args .room) (s .args .n) (else1 .if1 .left) (g .0) (g .1 .0) (pair-seen found4) (c .if2 .taken)
 
   sub-less : measure-lts.Need-sub-less (claims t) (measure-at t) measure.Post
   sub-less c = search needs
@@ -136,15 +173,16 @@ module _ (t : ℕ) where
 
   returns-3 : measure-lts.Need-returns-3 (claims t) (measure-at t) measure.Post
   returns-3 c =
-      let s = c .before .before .before .before .before .before .before .before .before .before .before .before .before .before in
-      let g = c .before .before .before .before .before .found4 .given .0 in
+      let (s, else1, found4, else2, at-measure) :
+      in-measure measure-lts.Start × in-measure measure-lts.Else1 × in-measure measure-lts.After-found4 × in-measure measure-lts.Else2 × in-measure measure-lts.After-measure = search in
+      let g = found4 .found4 .given .0 in
       let e = c .enum-told .given .1 in
       ap numberPaper e
-      ∙ measured-first (s .args .a) (five s) (s .args .levels) (s .args .room) (s .args .n) (c .before .before .before .before .before .before .before .before .if1 .left) (g .0) (g .1 .0) (pair-seen (c .before .before .before .before)) (codeNumber (c .enum-told .given .0 .0)) (c .enum-told .given .0 .1 .0) (c .before .before .before .if2 .left)
-      (told e (c .before .before .measure .ensures))
+      ∙ measured-first (s .args .a) (five s) (s .args .levels) (s .args .room) (s .args .n) (else1 .if1 .left) (g .0) (g .1 .0) (pair-seen found4) (codeNumber (c .enum-told .given .0 .0)) (c .enum-told .given .0 .1 .0) (else2 .if2 .left)
+      (told e (at-measure .measure .ensures))
 
   sub-last : measure-lts.Need-sub-last (claims t) (measure-at t) measure.Post
-  sub-last c = one-fits c
+  sub-last c = one-fits (search)
 
   measure-requires-2 : measure-lts.Need-measure-requires-2 (claims t) (measure-at t) measure.Post
   measure-requires-2 c κs = search needs
@@ -157,44 +195,53 @@ module _ (t : ℕ) where
 
   returns-4 : measure-lts.Need-returns-4 (claims t) (measure-at t) measure.Post
   returns-4 c =
-      let s = c .before .before .before .before .before .before .before .before .before .before .before .before .before .before .before .before .before .before in
-      let g = c .before .before .before .before .before .before .before .before .before .found4 .given .0 in
+      let (s, else1, found4, else2, one, measure2) :
+      in-measure measure-lts.Start × in-measure measure-lts.Else1 × in-measure measure-lts.After-found4 × in-measure measure-lts.Else2 × in-measure measure-lts.After-one × in-measure measure-lts.After-measure2 = search in
+      let g = found4 .found4 .given .0 in
       let e = c .enum-told2 .given .1 in
       ap numberPaper e
-      ∙ measured-rest (s .args .a) (five s) (s .args .levels) (s .args .room) (s .args .n) (c .before .before .before .before .before .before .before .before .before .before .before .before .if1 .left) (g .0) (g .1 .0) (pair-seen (c .before .before .before .before .before .before .before .before)) (codeNumber (c .enum-told2 .given .0 .0)) (c .enum-told2 .given .0 .1 .0) (c .before .before .before .before .one .given .0 .0) (c .before .before .before .before .before .before .before .if2 .left)
-      (one-is (c .before .before .before)) (told e (c .before .before .measure2 .ensures))
+      ∙ measured-rest (s .args .a) (five s) (s .args .levels) (s .args .room) (s .args .n) (else1 .if1 .left) (g .0) (g .1 .0) (pair-seen found4) (codeNumber (c .enum-told2 .given .0 .0)) (c .enum-told2 .given .0 .1 .0) (one .one .given .0 .0) (else2 .if2 .left)
+      (one-is one) (told e (measure2 .measure2 .ensures))
 
   add-t36 : measure-lts.Need-add-t36 (claims t) (measure-at t) measure.Post
-  add-t36 c = omega (arith, one-fits (c .before .before .before .before), c .before .before .before .before .before .before .before .before .before .before .before .before .before .before .before .before .before .before .before .fits .room, c .before .before .before .before .before .before .before .before .if2 .left)
+  add-t36 c =
+      let (start, else2) : in-measure measure-lts.Start × in-measure measure-lts.Else2 = search in
+      omega (arith, one-fits (search), start .fits .room, else2 .if2 .left)
 
   add-t37 : measure-lts.Need-add-t37 (claims t) (measure-at t) measure.Post
-  add-t37 c = omega (arith, one-fits (c .before .before .before .before), other-fits c, c .before .before .before .before .before .before .before .before .before .before .before .before .before .before .before .before .before .before .before .fits .room, c .before .before .before .before .before .before .before .before .if2 .left)
+  add-t37 c =
+      let (start, else2) : in-measure measure-lts.Start × in-measure measure-lts.Else2 = search in
+      omega (arith, one-fits (search), other-fits (search), start .fits .room, else2 .if2 .left)
 
   returns-5 : measure-lts.Need-returns-5 (claims t) (measure-at t) measure.Post
   returns-5 c =
-      let s = c .before .before .before .before .before .before .before .before .before .before .before .before .before in
-      let g = c .before .before .before .before .found .given .0 in
+      let (s, else1, found, form-len) :
+      in-measure measure-lts.Start × in-measure measure-lts.Else1 × in-measure measure-lts.After-found × in-measure measure-lts.After-form-len = search in
+      let g = found .found .given .0 in
       c .fitted .ensures
-      ∙ measured-buffer (s .args .a) (five s) (s .args .levels) (s .args .room) (s .args .n) (c .before .before .before .before .before .before .before .if1 .left) (g .0) (g .1 .0) (c .before .form-len .result) (buffer-seen (c .before .before .before)) (buffer-room (c .before .before .before) .0) (c .before .form-len .ensures)
+      ∙ measured-buffer (s .args .a) (five s) (s .args .levels) (s .args .room) (s .args .n) (else1 .if1 .left) (g .0) (g .1 .0) (form-len .form-len .result) (buffer-seen found) (buffer-room found .0) (form-len .form-len .ensures)
 
   returns-6 : measure-lts.Need-returns-6 (claims t) (measure-at t) measure.Post
   returns-6 c =
-      let s = c .before .before .before .before .before .before .before .before .before .before .before .before in
+      let (s, else1, found2, small-len) :
+      in-measure measure-lts.Start × in-measure measure-lts.Else1 × in-measure measure-lts.After-found2 × in-measure measure-lts.After-small-len = search in
       c .fitted2 .ensures
-      ∙ measured-number (s .args .a) (five s) (s .args .levels) (s .args .room) (s .args .n) (c .before .before .before .before .before .before .if1 .left) (c .before .before .before .found2 .given .0 .0) (c .before .small-len .result) (number-seen (c .before .before)) (c .before .small-len .ensures)
+      ∙ measured-number (s .args .a) (five s) (s .args .levels) (s .args .room) (s .args .n) (else1 .if1 .left) (found2 .found2 .given .0 .0) (small-len .small-len .result) (number-seen found2) (small-len .small-len .ensures)
 
   returns-7 : measure-lts.Need-returns-7 (claims t) (measure-at t) measure.Post
   returns-7 c =
-      let s = c .before .before .before .before .before .before .before .before .before .before in
-      let g = c .before .found3 .given .0 in
-      measured-refused (s .args .a) (five s) (s .args .levels) (s .args .room) (s .args .n) (c .before .before .before .before .if1 .left) (codeNumber (g .0)) (g .1 .0)
-      (seen (s .args .a) (five s) (s .args .n) (s .pre .1) (c .before .before .before .node .result) _ (c .before .before .before .node .ensures) (c .before .found3 .given .1))
+      let (s, else1, node, found3) :
+      in-measure measure-lts.Start × in-measure measure-lts.Else1 × in-measure measure-lts.After-node × in-measure measure-lts.After-found3 = search in
+      let g = found3 .found3 .given .0 in
+      measured-refused (s .args .a) (five s) (s .args .levels) (s .args .room) (s .args .n) (else1 .if1 .left) (codeNumber (g .0)) (g .1 .0)
+      (seen (s .args .a) (five s) (s .args .n) (s .pre .1) (node .node .result) _ (node .node .ensures) (found3 .found3 .given .1))
 
   returns-8 : measure-lts.Need-returns-8 (claims t) (measure-at t) measure.Post
   returns-8 c =
-      let s = c .before .before .before .before .before .before .before .before .before .before .before .before .before .before .before .before .before .before .before in
-      let g = c .before .before .before .before .before .before .before .before .before .before .found4 .given .0 in
-      measured-pair (s .args .a) (five s) (s .args .levels) (s .args .room) (s .args .n) (c .before .before .before .before .before .before .before .before .before .before .before .before .before .if1 .left) (g .0) (g .1 .0) (pair-seen (c .before .before .before .before .before .before .before .before .before)) (c .before .before .before .before .before .one .given .0 .0) (c .before .other .given .0 .0) (c .before .before .before .before .before .before .before .before .if2 .left) (one-is (c .before .before .before .before)) (other-is c)
+      let (s, else1, found4, else2, one, other) :
+      in-measure measure-lts.Start × in-measure measure-lts.Else1 × in-measure measure-lts.After-found4 × in-measure measure-lts.Else2 × in-measure measure-lts.After-one × in-measure measure-lts.After-other = search in
+      let g = found4 .found4 .given .0 in
+      measured-pair (s .args .a) (five s) (s .args .levels) (s .args .room) (s .args .n) (else1 .if1 .left) (g .0) (g .1 .0) (pair-seen found4) (one .one .given .0 .0) (other .other .given .0 .0) (else2 .if2 .left) (one-is one) (other-is other)
 
 pub +measure-spec : {M : Type 1} → statement M
 +measure-spec = close μ-measure λ t. measure-lts.spec

@@ -13,7 +13,7 @@ use Rattle.rules.specs.Save.{formOf}
 use Rattle.save.specs.Saves.{formed}
 use Rattle.save.proofs.Forms.{seen, buffer-in, number-in, some-level, not-refused, put-buffer, put-number, open-room, first-accepted, rest-room, rest-accepted, pair-put, pair-long, pair-next}
 use borrow.Author.Needs.{needs}
-use borrow.Fn.Kinds.{In}
+use borrow.Fn.Kinds.{In, Out}
 use borrow.Fn.PlainCycle.{Measures, is, falls, and}
 use Rattle.save.proofs.put.Reads as put
 use Rattle.save.proofs.put.Kinds as put-kinds
@@ -46,42 +46,74 @@ module _ (t : ℕ) where
   abbrev room : put-lts.Start (claims t) (put-at t) put.Post → ℕ
   room s = length (s .args .file .now) - s .args .at
 
+  abbrev in-put : (put-lts.Claims → In 6 put-kinds.ps → Out 6 put-kinds.ps put-kinds.r → Type 0) → Type 0
+  in-put place = place (claims t) (put-at t) put.Post
+
   -- what a node shows, in each arm
-  buffer-seen : (c : put-lts.After-known-told (claims t) (put-at t) put.Post)
-      → let s = c .before .before .before .before .before .before .before .before .before .before in let g = c .before .found .given .0 in says (buffer (g .0) (g .1 .0)) ≡ visited (s .args .a) (five s .pairs) (arg (s .args .a) (five s .atoms) (s .args .n))
-  buffer-seen c = let s = c .before .before .before .before .before .before .before .before .before .before in seen (s .args .a) (five s) (s .args .n) (s .pre .1 .0) (c .before .before .before .node .result) _ (c .before .before .before .node .ensures) (c .before .found .given .1)
+  buffer-seen : (c : put-lts.After-found (claims t) (put-at t) put.Post)
+      →
+      let s : in-put put-lts.Start = search in
+      let g = c .found .given .0 in says (buffer (g .0) (g .1 .0)) ≡ visited (s .args .a) (five s .pairs) (arg (s .args .a) (five s .atoms) (s .args .n))
+  buffer-seen c =
+      let (s, node) : in-put put-lts.Start × in-put put-lts.After-node = search in
+      seen (s .args .a) (five s) (s .args .n) (s .pre .1 .0) (node .node .result) _ (node .node .ensures) (c .found .given .1)
 
-  buffer-room : (c : put-lts.After-known-told (claims t) (put-at t) put.Post)
-      → let g = c .before .found .given .0 in (g .0 ≤ g .1 .0) × (g .1 .0 ≤ length (c .before .before .before .before .before .before .before .before .before .before .args .bytes .now)) × (g .1 .0 ≤ 4294967295)
-  buffer-room c = let s = c .before .before .before .before .before .before .before .before .before .before in let g = c .before .found .given .0 in buffer-in (s .args .a) (five s) (s .args .n) (s .pre .1 .0) (g .0) (g .1 .0) (buffer-seen c)
+  buffer-room : (c : put-lts.After-found (claims t) (put-at t) put.Post)
+      →
+      let start : in-put put-lts.Start = search in
+      let g = c .found .given .0 in (g .0 ≤ g .1 .0) × (g .1 .0 ≤ length (start .args .bytes .now)) × (g .1 .0 ≤ 4294967295)
+  buffer-room c =
+      let s : in-put put-lts.Start = search in
+      let g = c .found .given .0 in buffer-in (s .args .a) (five s) (s .args .n) (s .pre .1 .0) (g .0) (g .1 .0) (buffer-seen (c))
 
-  buffer-form : (c : put-lts.After-known-told (claims t) (put-at t) put.Post) → let s = c .before .before .before .before .before .before .before .before .before .before in let g = c .before .found .given .0 in
+  buffer-form : (c : put-lts.After-found (claims t) (put-at t) put.Post) →
+      let s : in-put put-lts.Start = search in
+      let g = c .found .given .0 in
       let form = formed (formOf (s .args .a) (five s) (s .args .levels) (room s) (s .args .n)) in
       (shortestAtom (take (g .1 .0 - g .0) (drop (g .0) (s .args .bytes .now))) ≡ form) × (length form ≤ room s)
   buffer-form c =
-      let s = c .before .before .before .before .before .before .before .before .before .before in let g = c .before .found .given .0 in
-      put-buffer (s .args .a) (five s) (s .args .levels) (room s) (s .args .n) (s .pre .1 .1 .1) (g .0) (g .1 .0) (buffer-seen c) (buffer-room c .0)
+      let s : in-put put-lts.Start = search in
+      let g = c .found .given .0 in
+      put-buffer (s .args .a) (five s) (s .args .levels) (room s) (s .args .n) (s .pre .1 .1 .1) (g .0) (g .1 .0) (buffer-seen (c)) (buffer-room (c) .0)
 
-  number-seen : (c : put-lts.After-known-told2 (claims t) (put-at t) put.Post)
-      → let s = c .before .before .before .before .before .before .before .before .before .before in says (number (c .before .found2 .given .0 .0)) ≡ visited (s .args .a) (five s .pairs) (arg (s .args .a) (five s .atoms) (s .args .n))
-  number-seen c = let s = c .before .before .before .before .before .before .before .before .before .before in seen (s .args .a) (five s) (s .args .n) (s .pre .1 .0) (c .before .before .before .node .result) _ (c .before .before .before .node .ensures) (c .before .found2 .given .1)
+  number-seen : (c : put-lts.After-found2 (claims t) (put-at t) put.Post)
+      →
+      let s : in-put put-lts.Start = search in
+      says (number (c .found2 .given .0 .0)) ≡ visited (s .args .a) (five s .pairs) (arg (s .args .a) (five s .atoms) (s .args .n))
+  number-seen c =
+      let (s, node) : in-put put-lts.Start × in-put put-lts.After-node = search in
+      seen (s .args .a) (five s) (s .args .n) (s .pre .1 .0) (node .node .result) _ (node .node .ensures) (c .found2 .given .1)
 
-  number-form : (c : put-lts.After-known-told2 (claims t) (put-at t) put.Post) → let s = c .before .before .before .before .before .before .before .before .before .before in
+  number-form : (c : put-lts.After-found2 (claims t) (put-at t) put.Post) →
+      let s : in-put put-lts.Start = search in
       let form = formed (formOf (s .args .a) (five s) (s .args .levels) (room s) (s .args .n)) in
-      (shortestAtom (smallBytes (c .before .found2 .given .0 .0)) ≡ form) × (length form ≤ room s)
-  number-form c = let s = c .before .before .before .before .before .before .before .before .before .before in put-number (s .args .a) (five s) (s .args .levels) (room s) (s .args .n) (s .pre .1 .1 .1) (c .before .found2 .given .0 .0) (number-seen c)
+      (shortestAtom (smallBytes (c .found2 .given .0 .0)) ≡ form) × (length form ≤ room s)
+  number-form c =
+      let s : in-put put-lts.Start = search in
+      put-number (s .args .a) (five s) (s .args .levels) (room s) (s .args .n) (s .pre .1 .1 .1) (c .found2 .given .0 .0) (number-seen (c))
 
-  pair-seen : (c : put-lts.After-known-told3 (claims t) (put-at t) put.Post)
-      → let s = c .before .before .before .before .before .before .before .before .before .before in let g = c .before .found3 .given .0 in says (children (g .0) (g .1 .0)) ≡ visited (s .args .a) (five s .pairs) (arg (s .args .a) (five s .atoms) (s .args .n))
-  pair-seen c = let s = c .before .before .before .before .before .before .before .before .before .before in seen (s .args .a) (five s) (s .args .n) (s .pre .1 .0) (c .before .before .before .node .result) _ (c .before .before .before .node .ensures) (c .before .found3 .given .1)
+  pair-seen : (c : put-lts.After-found3 (claims t) (put-at t) put.Post)
+      →
+      let s : in-put put-lts.Start = search in
+      let g = c .found3 .given .0 in says (children (g .0) (g .1 .0)) ≡ visited (s .args .a) (five s .pairs) (arg (s .args .a) (five s .atoms) (s .args .n))
+  pair-seen c =
+      let (s, node) : in-put put-lts.Start × in-put put-lts.After-node = search in
+      seen (s .args .a) (five s) (s .args .n) (s .pre .1 .0) (node .node .result) _ (node .node .ensures) (c .found3 .given .1)
 
-  pair-room : (c : put-lts.After-known-told3 (claims t) (put-at t) put.Post) → c .before .before .before .before .before .before .before .before .before .before .args .at < length (c .before .before .before .before .before .before .before .before .before .before .args .file .now)
+  pair-room : (c : put-lts.After-found3 (claims t) (put-at t) put.Post) →
+      let start : in-put put-lts.Start = search in
+      start .args .at < length (start .args .file .now)
   pair-room c =
-      let s = c .before .before .before .before .before .before .before .before .before .before in let g = c .before .found3 .given .0 in
-      open-room (s .args .a) (five s) (s .args .levels) (s .args .n) (s .args .file .now) (s .args .at) (s .pre .1 .1 .1) (g .0) (g .1 .0) (pair-seen c)
+      let s : in-put put-lts.Start = search in
+      let g = c .found3 .given .0 in
+      open-room (s .args .a) (five s) (s .args .levels) (s .args .n) (s .args .file .now) (s .args .at) (s .pre .1 .1 .1) (g .0) (g .1 .0) (pair-seen (c))
 
-  some-below : (c : put-lts.After-known-told3 (claims t) (put-at t) put.Post) → c .before .before .before .before .before .before .before .before .before .before .args .levels ≡ 0 → ⊥
-  some-below c = let s = c .before .before .before .before .before .before .before .before .before .before in some-level (s .args .a) (five s) (s .args .levels) (room s) (s .args .n) (s .pre .1 .1 .1)
+  some-below : (c : put-lts.After-known-told3 (claims t) (put-at t) put.Post) →
+      let start : in-put put-lts.Start = search in
+      start .args .levels ≡ 0 → ⊥
+  some-below c =
+      let s : in-put put-lts.Start = search in
+      some-level (s .args .a) (five s) (s .args .levels) (room s) (s .args .n) (s .pre .1 .1 .1)
 
   node-requires : put-lts.Need-node-requires (claims t) (put-at t) put.Post
   node-requires c κs = search needs
@@ -90,29 +122,29 @@ module _ (t : ℕ) where
   enum-known-found c = search needs
 
   sub-put-form : put-lts.Need-sub-put-form (claims t) (put-at t) put.Post
-  sub-put-form c = buffer-room c .0
+  sub-put-form c = buffer-room (search) .0
 
   part-put-form-start : put-lts.Need-part-put-form-start (claims t) (put-at t) put.Post
-  part-put-form-start c = omega (arith, buffer-room c)
+  part-put-form-start c = omega (arith, buffer-room (search))
 
   part-put-form-end : put-lts.Need-part-put-form-end (claims t) (put-at t) put.Post
-  part-put-form-end c = omega (arith, buffer-room c)
+  part-put-form-end c = omega (arith, buffer-room (search))
 
   put-form-requires : put-lts.Need-put-form-requires (claims t) (put-at t) put.Post
   put-form-requires c κs =
-      let s = c .before .before .before .before .before .before .before .before .before .before .before .before in
-      let f = buffer-form (c .before .before) in
-      (simp (length-take, length-drop) (omega (arith, buffer-room (c .before .before))), omega (arith, f .1, ap length (f .0), s .pre .1 .1 .0))
+      let (s, found) : in-put put-lts.Start × in-put put-lts.After-found = search in
+      let f = buffer-form found in
+      (simp (length-take, length-drop) (omega (arith, buffer-room found)), omega (arith, f .1, ap length (f .0), s .pre .1 .1 .0))
 
   enum-known-found-2 : put-lts.Need-enum-known-found-2 (claims t) (put-at t) put.Post
   enum-known-found-2 c = search needs
 
   put-small-requires : put-lts.Need-put-small-requires (claims t) (put-at t) put.Post
   put-small-requires c κs =
-      let s = c .before .before .before .before .before .before .before .before .before .before .before in
-      let v = c .before .before .found2 .given .0 .0 in
-      let f = number-form (c .before) in
-      (number-in (s .args .a) (five s) (s .args .n) (s .pre .1 .0) v (number-seen (c .before)), omega (arith, f .1, ap length (f .0), s .pre .1 .1 .0))
+      let (s, found2) : in-put put-lts.Start × in-put put-lts.After-found2 = search in
+      let v = found2 .found2 .given .0 .0 in
+      let f = number-form found2 in
+      (number-in (s .args .a) (five s) (s .args .n) (s .pre .1 .0) v (number-seen found2), omega (arith, f .1, ap length (f .0), s .pre .1 .1 .0))
 
   enum-told : put-lts.Need-enum-told (claims t) (put-at t) put.Post
   enum-told c = search needs
@@ -124,35 +156,35 @@ module _ (t : ℕ) where
   sub-less c = let h = some-below c in omega arith
 
   slice-write-file : put-lts.Need-slice-write-file (claims t) (put-at t) put.Post
-  slice-write-file c = omega (arith, pair-room c)
+  slice-write-file c = omega (arith, pair-room (search))
 
   add-to : put-lts.Need-add-to (claims t) (put-at t) put.Post
   add-to c = search needs
 
   put-requires : put-lts.Need-put-requires (claims t) (put-at t) put.Post
   put-requires c κs =
-      let s = c .before .before .before .before .before .before .before .before .before .before .before in
-      let g = c .before .before .found3 .given .0 in
-      let h = some-below (c .before) in (
+      let (s, found3) : in-put put-lts.Start × in-put put-lts.After-found3 = search in
+      let g = found3 .found3 .given .0 in
+      let h = some-below (search) in (
         omega (arith, s .pre .0),
         (
           s .pre .1 .0,
-          (omega (arith, pair-room (c .before), length-set (s .args .file .now) (s .args .at) 255), first-accepted (s .args .a) (five s) (s .args .levels) (s .args .n) (s .args .file .now) (s .args .at) (s .pre .1 .1 .1) (g .0) (g .1 .0) (pair-seen (c .before))),
+          (omega (arith, pair-room found3, length-set (s .args .file .now) (s .args .at) 255), first-accepted (s .args .a) (five s) (s .args .levels) (s .args .n) (s .args .file .now) (s .args .at) (s .pre .1 .1 .1) (g .0) (g .1 .0) (pair-seen found3)),
         ),
       )
 
   put-requires-2 : put-lts.Need-put-requires-2 (claims t) (put-at t) put.Post
   put-requires-2 c κs =
-      let s = c .before .before .before .before .before .before .before .before .before .before .before .before .before .before .before in
-      let g = c .before .before .before .before .before .before .found3 .given .0 in
-      let p = c .before .before .before .put in
-      let h = some-below (c .before .before .before .before .before) in (
+      let (s, found3, at-put) : in-put put-lts.Start × in-put put-lts.After-found3 × in-put put-lts.After-put = search in
+      let g = found3 .found3 .given .0 in
+      let p = at-put .put in
+      let h = some-below (search) in (
         omega (arith, s .pre .0),
         (
           s .pre .1 .0,
           (
-            rest-room (s .args .a) (five s) (s .args .levels) (s .args .n) (s .args .file .now) (s .args .at) (s .pre .1 .1 .1) (g .0) (g .1 .0) (pair-seen (c .before .before .before .before .before)) (p .last .1 .1 .1 .1 .1 .1 .1 .1 .0) (p .result) (p .ensures .0) (p .ensures .1),
-            rest-accepted (s .args .a) (five s) (s .args .levels) (s .args .n) (s .args .file .now) (s .args .at) (s .pre .1 .1 .1) (g .0) (g .1 .0) (pair-seen (c .before .before .before .before .before)) (p .last .1 .1 .1 .1 .1 .1 .1 .1 .0) (p .result) (p .ensures .0) (p .ensures .1),
+            rest-room (s .args .a) (five s) (s .args .levels) (s .args .n) (s .args .file .now) (s .args .at) (s .pre .1 .1 .1) (g .0) (g .1 .0) (pair-seen found3) (p .last .1 .1 .1 .1 .1 .1 .1 .1 .0) (p .result) (p .ensures .0) (p .ensures .1),
+            rest-accepted (s .args .a) (five s) (s .args .levels) (s .args .n) (s .args .file .now) (s .args .at) (s .pre .1 .1 .1) (g .0) (g .1 .0) (pair-seen found3) (p .last .1 .1 .1 .1 .1 .1 .1 .1 .0) (p .result) (p .ensures .0) (p .ensures .1),
           ),
         ),
       )
@@ -162,9 +194,9 @@ module _ (t : ℕ) where
 
   returns : put-lts.Need-returns (claims t) (put-at t) put.Post
   returns c =
-      let s = c .before .before .before .before .before .before .before .before .before .before .before .before .before .before .before in
-      let f = buffer-form (c .before .before .before .before .before) .0 in
-      let p = c .before .before .put-form .ensures in
+      let (s, put-form) : in-put put-lts.Start × in-put put-lts.After-put-form = search in
+      let f = buffer-form (search) .0 in
+      let p = put-form .put-form .ensures in
       (p .0 ∙ ap (λ w. over (s .args .file .now) (s .args .at) w) f, p .1 ∙ ap (λ w. s .args .at + length w) f)
 
   same-length-2 : put-lts.Need-same-length-2 (claims t) (put-at t) put.Post
@@ -172,34 +204,34 @@ module _ (t : ℕ) where
 
   returns-2 : put-lts.Need-returns-2 (claims t) (put-at t) put.Post
   returns-2 c =
-      let s = c .before .before .before .before .before .before .before .before .before .before .before .before .before .before in
-      let f = number-form (c .before .before .before .before) .0 in
-      let p = c .before .before .put-small .ensures in
+      let (s, put-small) : in-put put-lts.Start × in-put put-lts.After-put-small = search in
+      let f = number-form (search) .0 in
+      let p = put-small .put-small .ensures in
       (p .0 ∙ ap (λ w. over (s .args .file .now) (s .args .at) w) f, p .1 ∙ ap (λ w. s .args .at + length w) f)
 
   returns-3 : put-lts.Need-returns-3 (claims t) (put-at t) put.Post
   returns-3 c =
-      let s = c .before .before .before .before .before .before .before .before .before in
+      let (s, node) : in-put put-lts.Start × in-put put-lts.After-node = search in
       let g = c .enum-told .given .0 in
-      let e = seen (s .args .a) (five s) (s .args .n) (s .pre .1 .0) (c .before .before .node .result) _ (c .before .before .node .ensures) (c .enum-told .given .1) in
+      let e = seen (s .args .a) (five s) (s .args .n) (s .pre .1 .0) (node .node .result) _ (node .node .ensures) (c .enum-told .given .1) in
       absurd (not-refused (s .args .a) (five s) (s .args .levels) (room s) (s .args .n) (s .pre .1 .1 .1) (codeNumber (g .0)) (g .1 .0) e)
 
   same-length-3 : put-lts.Need-same-length-3 (claims t) (put-at t) put.Post
   same-length-3 c =
-      let s = c .before .before .before .before .before .before .before .before .before .before .before .before .before .before .before .before .before .before in
-      let g = c .before .before .before .before .before .before .before .before .before .found3 .given .0 in
-      let p = c .before .before .before .before .before .before .put in
-      let q = c .before .before .put2 in
-      pair-long (s .args .a) (five s) (s .args .levels) (s .args .n) (s .args .file .now) (s .args .at) (s .pre .1 .1 .1) (g .0) (g .1 .0) (pair-seen (c .before .before .before .before .before .before .before .before)) (p .last .1 .1 .1 .1 .1 .1 .1 .1 .0) (p .result) (p .ensures .0) (p .ensures .1) (q .last .1 .1 .1 .1 .1 .1 .1 .1 .0) (q .ensures .0)
+      let (s, found3, at-put, put2) : in-put put-lts.Start × in-put put-lts.After-found3 × in-put put-lts.After-put × in-put put-lts.After-put2 = search in
+      let g = found3 .found3 .given .0 in
+      let p = at-put .put in
+      let q = put2 .put2 in
+      pair-long (s .args .a) (five s) (s .args .levels) (s .args .n) (s .args .file .now) (s .args .at) (s .pre .1 .1 .1) (g .0) (g .1 .0) (pair-seen found3) (p .last .1 .1 .1 .1 .1 .1 .1 .1 .0) (p .result) (p .ensures .0) (p .ensures .1) (q .last .1 .1 .1 .1 .1 .1 .1 .1 .0) (q .ensures .0)
 
   returns-4 : put-lts.Need-returns-4 (claims t) (put-at t) put.Post
   returns-4 c =
-      let s = c .before .before .before .before .before .before .before .before .before .before .before .before .before .before .before .before .before .before in
-      let g = c .before .before .before .before .before .before .before .before .before .found3 .given .0 in
-      let p = c .before .before .before .before .before .before .put in
-      let q = c .before .before .put2 in (
-        pair-put (s .args .a) (five s) (s .args .levels) (s .args .n) (s .args .file .now) (s .args .at) (s .pre .1 .1 .1) (g .0) (g .1 .0) (pair-seen (c .before .before .before .before .before .before .before .before)) (p .last .1 .1 .1 .1 .1 .1 .1 .1 .0) (p .result) (p .ensures .0) (p .ensures .1) (q .last .1 .1 .1 .1 .1 .1 .1 .1 .0) (q .ensures .0),
-        pair-next (s .args .a) (five s) (s .args .levels) (s .args .n) (s .args .file .now) (s .args .at) (s .pre .1 .1 .1) (g .0) (g .1 .0) (pair-seen (c .before .before .before .before .before .before .before .before)) (p .last .1 .1 .1 .1 .1 .1 .1 .1 .0) (p .result) (p .ensures .0) (p .ensures .1) (q .result) (q .ensures .1),
+      let (s, found3, at-put, put2) : in-put put-lts.Start × in-put put-lts.After-found3 × in-put put-lts.After-put × in-put put-lts.After-put2 = search in
+      let g = found3 .found3 .given .0 in
+      let p = at-put .put in
+      let q = put2 .put2 in (
+        pair-put (s .args .a) (five s) (s .args .levels) (s .args .n) (s .args .file .now) (s .args .at) (s .pre .1 .1 .1) (g .0) (g .1 .0) (pair-seen found3) (p .last .1 .1 .1 .1 .1 .1 .1 .1 .0) (p .result) (p .ensures .0) (p .ensures .1) (q .last .1 .1 .1 .1 .1 .1 .1 .1 .0) (q .ensures .0),
+        pair-next (s .args .a) (five s) (s .args .levels) (s .args .n) (s .args .file .now) (s .args .at) (s .pre .1 .1 .1) (g .0) (g .1 .0) (pair-seen found3) (p .last .1 .1 .1 .1 .1 .1 .1 .1 .0) (p .result) (p .ensures .0) (p .ensures .1) (q .result) (q .ensures .1),
       )
 
 pub +put-spec : {M : Type 1} → statement M

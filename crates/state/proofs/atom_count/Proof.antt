@@ -20,7 +20,9 @@ counted-requires : tie.Need-counted-requires
 counted-requires c κs = search needs
 
 returns : tie.Need-returns
-returns c = simp (c .counted .ensures, c .before .total .ensures) (count-uncapped (c .before .before .args .a) (atoms (c .before .before .args .a)) λ l. omega arith)
+returns c =
+    let (start, total) : tie.Start × tie.After-total = search in
+    simp (c .counted .ensures, total .total .ensures) (count-uncapped (start .args .a) (atoms (start .args .a)) λ l. omega arith)
 
 pub atom-count-spec : {M : Type 1} → statement M
 atom-count-spec = tie.close (tie.spec total-requires counted-requires returns)

@@ -16,11 +16,15 @@ mark-requires c κs = search needs
 
 returns : tie.Need-returns
 unfolding need
-returns c = simp (c .mark .ensures, ← (c .before .before .limits-sound .ensures), c .before .if1 .taken)
+returns c =
+    let (limits-sound, then1) : tie.After-limits-sound × tie.Then1 = search in
+    simp (c .mark .ensures, ← (limits-sound .limits-sound .ensures), then1 .if1 .taken)
 
 returns-2 : tie.Need-returns-2
 unfolding need
-returns-2 c = simp (← (c .before .limits-sound .ensures), c .if1 .left)
+returns-2 c =
+    let limits-sound : tie.After-limits-sound = search in
+    simp (← (limits-sound .limits-sound .ensures), c .if1 .left)
 
 pub checkpoint-spec : {M : Type 1} → statement M
 checkpoint-spec = tie.close (tie.spec limits-sound-requires mark-requires returns returns-2)

@@ -12,11 +12,15 @@ limits-sound-requires c κs = search needs
 
 returns : tie.Need-returns
 unfolding need
-returns c = simp (← (c .before .limits-sound .ensures), c .if1 .taken)
+returns c =
+    let limits-sound : tie.After-limits-sound = search in
+    simp (← (limits-sound .limits-sound .ensures), c .if1 .taken)
 
 returns-2 : tie.Need-returns-2
 unfolding need
-returns-2 c = simp (← (c .before .limits-sound .ensures), c .if1 .left)
+returns-2 c =
+    let limits-sound : tie.After-limits-sound = search in
+    simp (← (limits-sound .limits-sound .ensures), c .if1 .left)
 
 pub counted-spec : {M : Type 1} → statement M
 counted-spec = tie.close (tie.spec limits-sound-requires returns returns-2)

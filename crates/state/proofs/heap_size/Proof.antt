@@ -20,7 +20,9 @@ counted-requires : tie.Need-counted-requires
 counted-requires c κs = search needs
 
 returns : tie.Need-returns
-returns c = simp (c .counted .ensures, c .before .total .ensures) (count-uncapped (c .before .before .args .a) (heap (c .before .before .args .a)) λ l. omega arith)
+returns c =
+    let (start, total) : tie.Start × tie.After-total = search in
+    simp (c .counted .ensures, total .total .ensures) (count-uncapped (start .args .a) (heap (start .args .a)) λ l. omega arith)
 
 pub heap-size-spec : {M : Type 1} → statement M
 heap-size-spec = tie.close (tie.spec total-requires counted-requires returns)

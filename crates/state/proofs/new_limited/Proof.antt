@@ -14,14 +14,18 @@ fresh-requires c κs = search needs
 
 returns : tie.Need-returns
 unfolding newLimited need
-returns c = simp (c .fresh .ensures, le-leb _ _ (c .before .if1 .taken))
+returns c =
+    let then1 : tie.Then1 = search in
+    simp (c .fresh .ensures, le-leb _ _ (then1 .if1 .taken))
 
 fresh-requires-2 : tie.Need-fresh-requires-2
 fresh-requires-2 c κs = search needs
 
 returns-2 : tie.Need-returns-2
 unfolding newLimited need
-returns-2 c = simp (c .fresh2 .ensures, lt-leb _ _ (c .before .if1 .left))
+returns-2 c =
+    let else1 : tie.Else1 = search in
+    simp (c .fresh2 .ensures, lt-leb _ _ (else1 .if1 .left))
 
 pub new-limited-spec : {M : Type 1} → statement M
 new-limited-spec = tie.close (tie.spec fresh-requires returns fresh-requires-2 returns-2)

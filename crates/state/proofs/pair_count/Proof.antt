@@ -20,7 +20,9 @@ counted-requires : tie.Need-counted-requires
 counted-requires c κs = search needs
 
 returns : tie.Need-returns
-returns c = simp (c .counted .ensures, c .before .total .ensures) (count-uncapped (c .before .before .args .a) (pairs (c .before .before .args .a)) λ l. omega arith)
+returns c =
+    let (start, total) : tie.Start × tie.After-total = search in
+    simp (c .counted .ensures, total .total .ensures) (count-uncapped (start .args .a) (pairs (start .args .a)) λ l. omega arith)
 
 pub pair-count-spec : {M : Type 1} → statement M
 pair-count-spec = tie.close (tie.spec total-requires counted-requires returns)

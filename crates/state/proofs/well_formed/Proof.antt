@@ -16,22 +16,32 @@ lists-sound-requires : tie.Need-lists-sound-requires
 lists-sound-requires c κs = search needs
 
 atom-slots-sound-requires : tie.Need-atom-slots-sound-requires
-atom-slots-sound-requires c κs = omega (arith, lists-lent _ _ _ _ _ _ (sym (c .before .lists-sound .ensures) ∙ c .if1 .taken))
+atom-slots-sound-requires c κs =
+    let lists-sound : tie.After-lists-sound = search in
+    omega (arith, lists-lent _ _ _ _ _ _ (sym (lists-sound .lists-sound .ensures) ∙ c .if1 .taken))
 
 pair-slots-sound-requires : tie.Need-pair-slots-sound-requires
-pair-slots-sound-requires c κs = omega (arith, lists-lent _ _ _ _ _ _ (sym (c .before .before .before .lists-sound .ensures) ∙ c .before .before .if1 .taken))
+pair-slots-sound-requires c κs =
+    let (lists-sound, then1) : tie.After-lists-sound × tie.Then1 = search in
+    omega (arith, lists-lent _ _ _ _ _ _ (sym (lists-sound .lists-sound .ensures) ∙ then1 .if1 .taken))
 
 returns : tie.Need-returns
 unfolding wellFormed
-returns c = simp (c .pair-slots-sound .ensures, ← (c .before .before .atom-slots-sound .ensures), c .before .if2 .taken, ← (c .before .before .before .before .lists-sound .ensures), c .before .before .before .if1 .taken)
+returns c =
+    let (lists-sound, then1, atom-slots-sound, then2) : tie.After-lists-sound × tie.Then1 × tie.After-atom-slots-sound × tie.Then2 = search in
+    simp (c .pair-slots-sound .ensures, ← (atom-slots-sound .atom-slots-sound .ensures), then2 .if2 .taken, ← (lists-sound .lists-sound .ensures), then1 .if1 .taken)
 
 returns-2 : tie.Need-returns-2
 unfolding wellFormed
-returns-2 c = simp (← (c .before .atom-slots-sound .ensures), c .if2 .left, ← (c .before .before .before .lists-sound .ensures), c .before .before .if1 .taken)
+returns-2 c =
+    let (lists-sound, then1, atom-slots-sound) : tie.After-lists-sound × tie.Then1 × tie.After-atom-slots-sound = search in
+    simp (← (atom-slots-sound .atom-slots-sound .ensures), c .if2 .left, ← (lists-sound .lists-sound .ensures), then1 .if1 .taken)
 
 returns-3 : tie.Need-returns-3
 unfolding wellFormed
-returns-3 c = simp (← (c .before .lists-sound .ensures), c .if1 .left)
+returns-3 c =
+    let lists-sound : tie.After-lists-sound = search in
+    simp (← (lists-sound .lists-sound .ensures), c .if1 .left)
 
 pub well-formed-spec : {M : Type 1} → statement M
 well-formed-spec =

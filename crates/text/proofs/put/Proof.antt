@@ -27,8 +27,8 @@ same-length c = search needs
 
 returns : tie.Need-returns
 returns c =
-    let b = c .before .before .before .before .before .before in
-    put-tail (b .args .out .now) (b .args .s .now) (c .before .before .copy .last .1 .0) (b .args .w) (b .pre) (c .before .before .copy .ensures .1)
+    let (b, copy) : tie.Start × tie.After-copy = search in
+    put-tail (b .args .out .now) (b .args .s .now) (copy .copy .last .1 .0) (b .args .w) (b .pre) (copy .copy .ensures .1)
 
 pub put-spec : {M : Type 1} → statement M
 put-spec =

@@ -28,10 +28,11 @@ same-length c = search needs
 returns : tie.Need-returns
 unfolding endText
 returns c =
-    let a = c .before .before .before .before .before .before .before .before .before .before .before .before .before .before .args in
-    let p = c .before .before .before .before .before .before .before .before .before .before .put in
-    let q = c .before .before .before .before .before .before .put-number in
-    let r = c .before .before .put-number2 in
+    let (start, put, put-number, put-number2) : tie.Start × tie.After-put × tie.After-put-number × tie.After-put-number2 = search in
+    let a = start .args in
+    let p = put .put in
+    let q = put-number .put-number in
+    let r = put-number2 .put-number2 in
     let f = put-then (a .out .now) (p .last .0) (q .last .0) _ _ (a .w) (p .result) (q .result) (p .ensures) (q .ensures .0) in
     (put-then (a .out .now) (q .last .0) (r .last .0) _ _ (a .w) (q .result) (r .result) f (r .ensures .0), omega (arith, p .ensures .end, q .ensures .1, r .ensures .1))
 

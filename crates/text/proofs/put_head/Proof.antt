@@ -18,7 +18,9 @@ same-length c = search needs
 
 returns : tie.Need-returns
 unfolding headText
-returns c = (c .before .before .put .ensures, c .before .before .put .ensures .end)
+returns c =
+    let put : tie.After-put = search in
+    (put .put .ensures, put .put .ensures .end)
 
 pub put-head-spec : {M : Type 1} → statement M
 put-head-spec = tie.close (tie.spec slice-aggregate-put put-requires same-length returns)

@@ -18,7 +18,9 @@ same-length c = search needs
 
 returns : tie.Need-returns
 unfolding longText
-returns c = (c .before .before .put .ensures, c .before .before .put .ensures .end)
+returns c =
+    let put : tie.After-put = search in
+    (put .put .ensures, put .put .ensures .end)
 
 pub put-long-spec : {M : Type 1} → statement M
 put-long-spec = tie.close (tie.spec slice-aggregate-put put-requires same-length returns)

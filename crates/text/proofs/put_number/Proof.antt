@@ -25,28 +25,37 @@ slice-aggregate-put c = search needs
 
 -- how many digits there are
 few : (c : tie.After-decimal) → c .decimal .result ≤ 20
-few c = few-digits (c .decimal .result) (c .before .before .before .args .n) (omega arith) (c .decimal .ensures .1 .0)
+few c =
+    let start : tie.Start = search in
+    few-digits (c .decimal .result) (start .args .n) (omega arith) (c .decimal .ensures .1 .0)
 
 put-requires : tie.Need-put-requires
-put-requires c κs = omega (arith, few (c .before .before), c .before .before .decimal .ensures .0 .1)
+put-requires c κs =
+    let decimal : tie.After-decimal = search in
+    omega (arith, few decimal, decimal .decimal .ensures .0 .1)
 
 slice-write-out : tie.Need-slice-write-out
-slice-write-out c = omega (arith, few (c .before .before .before .before .before), c .before .before .before .before .before .decimal .ensures .0 .1, c .before .before .put .ensures .end)
+slice-write-out c =
+    let (decimal, put) : tie.After-decimal × tie.After-put = search in
+    omega (arith, few decimal, decimal .decimal .ensures .0 .1, put .put .ensures .end)
 
 add-result : tie.Need-add-result
-add-result c = omega (arith, few (c .before .before .before .before .before), c .before .before .before .before .before .decimal .ensures .0 .1, c .before .before .put .ensures .end)
+add-result c =
+    let (decimal, put) : tie.After-decimal × tie.After-put = search in
+    omega (arith, few decimal, decimal .decimal .ensures .0 .1, put .put .ensures .end)
 
 same-length : tie.Need-same-length
 same-length c = search needs
 
 returns : tie.Need-returns
 returns c =
-    let d = c .before .before .before .before .before .decimal in
-    let a = c .before .before .before .before .before .before .before .before .args in
-    let p = c .before .before .put in
+    let (start, decimal, put) : tie.Start × tie.After-decimal × tie.After-put = search in
+    let d = decimal .decimal in
+    let a = start .args in
+    let p = put .put in
     let h : p .result < length (p .last .0) = slice-write-out c in
-    let q = put-as (a .out .now) (p .last .0) _ _ (a .w) (p .result) (p .ensures) (d .ensures .1 .1 ∙ dec-is (d .result) (a .n) (d .ensures .1 .0) (few (c .before .before .before .before .before))) in
-    (put-byte (a .out .now) (p .last .0) _ (a .w) (p .result) (a .last) q h, omega (arith, few (c .before .before .before .before .before), d .ensures .0 .1, p .ensures .end))
+    let q = put-as (a .out .now) (p .last .0) _ _ (a .w) (p .result) (p .ensures) (d .ensures .1 .1 ∙ dec-is (d .result) (a .n) (d .ensures .1 .0) (few decimal)) in
+    (put-byte (a .out .now) (p .last .0) _ (a .w) (p .result) (a .last) q h, omega (arith, few decimal, d .ensures .0 .1, p .ensures .end))
 
 pub put-number-spec : {M : Type 1} → statement M
 put-number-spec =

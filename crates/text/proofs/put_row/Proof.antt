@@ -34,13 +34,15 @@ same-length c = search needs
 returns : tie.Need-returns
 unfolding rowText
 returns c =
-    let a = c .before .before .before .before .before .before .before .before .before .before .before .before .before .before .before .before .before .before .before .before .before .before .before .before .before .args in
-    let p1 = c .before .before .before .before .before .before .before .before .before .before .before .before .before .before .before .before .before .before .before .before .before .before .put-number in
-    let p2 = c .before .before .before .before .before .before .before .before .before .before .before .before .before .before .before .before .before .before .put-number2 in
-    let p3 = c .before .before .before .before .before .before .before .before .before .before .before .before .before .before .put-shown in
-    let p4 = c .before .before .before .before .before .before .before .before .before .before .put-number3 in
-    let p5 = c .before .before .before .before .before .before .put-number4 in
-    let p6 = c .before .before .put-number5 in
+    let (start, put-number, put-number2, put-shown, put-number3, put-number4, put-number5) :
+    tie.Start × tie.After-put-number × tie.After-put-number2 × tie.After-put-shown × tie.After-put-number3 × tie.After-put-number4 × tie.After-put-number5 = search in
+    let a = start .args in
+    let p1 = put-number .put-number in
+    let p2 = put-number2 .put-number2 in
+    let p3 = put-shown .put-shown in
+    let p4 = put-number3 .put-number3 in
+    let p5 = put-number4 .put-number4 in
+    let p6 = put-number5 .put-number5 in
     let o = a .out .now in
     let q2 = put-then o (p1 .last .0) (p2 .last .0) _ _ (a .w) (p1 .result) (p2 .result) (p1 .ensures .0) (p2 .ensures .0) in
     let q3 = put-then o (p2 .last .0) (p3 .last .0) _ _ (a .w) (p2 .result) (p3 .result) q2 (p3 .ensures .0) in

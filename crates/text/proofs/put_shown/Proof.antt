@@ -34,18 +34,20 @@ same-length c = search needs
 
 returns : tie.Need-returns
 returns c =
-    let a = c .before .before .before .before .before .before .before .before .args in
-    let p = c .before .before .put-number in
-    (put-as (a .out .now) (p .last .0) _ _ (a .w) (p .result) (p .ensures .0) (ap shownText (sym (c .before .before .before .before .before .node .given .1))), p .ensures .1)
+    let (start, node, put-number) : tie.Start × tie.After-node × tie.After-put-number = search in
+    let a = start .args in
+    let p = put-number .put-number in
+    (put-as (a .out .now) (p .last .0) _ _ (a .w) (p .result) (p .ensures .0) (ap shownText (sym (node .node .given .1))), p .ensures .1)
 
 same-length-2 : tie.Need-same-length-2
 same-length-2 c = search needs
 
 returns-2 : tie.Need-returns-2
 returns-2 c =
-    let a = c .before .before .before .before .before .before .before .before .args in
-    let p = c .before .before .put in
-    (put-as (a .out .now) (p .last .0) _ _ (a .w) (p .result) (p .ensures) (ap shownText (sym (c .before .before .before .before .before .enum-told .given .1))), omega (arith, p .ensures .end))
+    let (start, told, put) : tie.Start × tie.After-enum-told × tie.After-put = search in
+    let a = start .args in
+    let p = put .put in
+    (put-as (a .out .now) (p .last .0) _ _ (a .w) (p .result) (p .ensures) (ap shownText (sym (told .enum-told .given .1))), omega (arith, p .ensures .end))
 
 pub put-shown-spec : {M : Type 1} → statement M
 put-shown-spec =

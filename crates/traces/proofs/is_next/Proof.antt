@@ -14,7 +14,7 @@ slice-relend-prefix-read-full : tie.Need-slice-relend-prefix-read-full
 slice-relend-prefix-read-full c = search needs
 
 slice-aggregate-read-full : tie.Need-slice-aggregate-read-full
-slice-aggregate-read-full c = sym (length-take-le _ _ (omega (arith, slice-relend-prefix-read-full (c .before))))
+slice-aggregate-read-full c = sym (length-take-le _ _ (omega (arith, slice-relend-prefix-read-full (search))))
 
 read-full-requires : tie.Need-read-full-requires
 read-full-requires c κs = search needs
@@ -29,7 +29,7 @@ slice-reshare-prefix-same : tie.Need-slice-reshare-prefix-same
 slice-reshare-prefix-same c = search needs
 
 slice-aggregate-same : tie.Need-slice-aggregate-same
-slice-aggregate-same c = sym (length-take-le _ _ (omega (arith, slice-reshare-prefix-same (c .before))))
+slice-aggregate-same c = sym (length-take-le _ _ (omega (arith, slice-reshare-prefix-same (search))))
 
 same-requires : tie.Need-same-requires
 same-requires c κs = search needs

@@ -42,7 +42,9 @@ slice-reshare-prefix-say : tie.Need-slice-reshare-prefix-say
 slice-reshare-prefix-say c = search needs
 
 slice-aggregate-say : tie.Need-slice-aggregate-say
-slice-aggregate-say c = sym (length-take-le _ _ (omega (arith, c .before .before .find .ensures .1, c .before .before .before .before .before .before .before .before .before .before .before .read-full .kept .1 .0, c .before .before .before .before .before .before .before .before .before .before .before .before .before .before .before .before .before .before .before .before .before .before .pre .3)))
+slice-aggregate-say c =
+    let (start, read-full, find) : tie.Start × tie.After-read-full × tie.After-find = search in
+    sym (length-take-le _ _ (omega (arith, find .find .ensures .1, read-full .read-full .kept .1 .0, start .pre .3)))
 
 slice-aggregate-say-2 : tie.Need-slice-aggregate-say-2
 slice-aggregate-say-2 c = search needs
@@ -60,7 +62,9 @@ slice-relend-prefix-read-full : tie.Need-slice-relend-prefix-read-full
 slice-relend-prefix-read-full c = search needs
 
 slice-aggregate-read-full : tie.Need-slice-aggregate-read-full
-slice-aggregate-read-full c = sym (length-take-le _ _ (omega (arith, c .before .if2 .left, c .before .before .before .before .before .before .before .before .before .before .before .before .before .before .before .before .before .before .before .before .before .before .pre .2)))
+slice-aggregate-read-full c =
+    let (start, else2) : tie.Start × tie.Else2 = search in
+    sym (length-take-le _ _ (omega (arith, else2 .if2 .left, start .pre .2)))
 
 read-full-requires-2 : tie.Need-read-full-requires-2
 read-full-requires-2 c κs = search needs
@@ -69,16 +73,27 @@ slice-reshare-prefix-text-length : tie.Need-slice-reshare-prefix-text-length
 slice-reshare-prefix-text-length c = search needs
 
 slice-aggregate-text-length : tie.Need-slice-aggregate-text-length
-slice-aggregate-text-length c = sym (length-take-le _ _ (omega (arith, slice-reshare-prefix-text-length (c .before))))
+slice-aggregate-text-length c = sym (length-take-le _ _ (omega (arith, slice-reshare-prefix-text-length (search))))
 
 text-length-requires : tie.Need-text-length-requires
-text-length-requires c κs = (c .before .before .before .before .before .before .before .before .before .before .before .before .before .before .before .before .before .before .before .before .before .before .before .before .before .before .before .before .before .before .before .before .before .pre .0, c .before .before .before .before .before .before .before .before .before .before .before .before .before .before .before .before .before .before .before .before .before .before .before .before .before .before .before .before .before .before .before .before .before .pre .1, simp length-take (omega (arith, c .before .before .before .before .before .before .before .before .before .before .before .before .if2 .left)))
+text-length-requires c κs =
+    let (start, else2) : tie.Start × tie.Else2 = search in
+    (start .pre .0, start .pre .1, simp length-take (omega (arith, else2 .if2 .left)))
+
+abbrev earlier : tie.After-text-length → tie.Start × tie.After-read-full × tie.After-find
+earlier c = search
 
 slice-reshare-prefix-say-2 : tie.Need-slice-reshare-prefix-say-2
-slice-reshare-prefix-say-2 c = omega (arith, c .before .before .before .before .before .before .before .before .before .before .before .before .before .before .before .before .before .before .before .before .before .before .before .before .before .before .before .before .before .find .ensures .1, c .before .before .before .before .before .before .before .before .before .before .before .before .before .before .before .before .before .before .before .before .before .before .before .before .before .before .before .before .before .before .before .before .before .before .before .before .before .before .read-full .kept .1 .0, c .before .before .before .before .before .before .before .before .before .before .before .before .before .before .before .before .before .before .before .before .before .before .before .before .before .before .before .before .before .before .before .before .before .before .before .before .before .before .before .before .before .before .before .before .before .before .before .before .before .pre .3)
+slice-reshare-prefix-say-2 c =
+    let text-length : tie.After-text-length = search in
+    let (start, read-full, find) = earlier text-length in
+    omega (arith, find .find .ensures .1, read-full .read-full .kept .1 .0, start .pre .3)
+
+abbrev then3-of : tie.After-say-arg3 → tie.Then3
+then3-of c = search
 
 slice-aggregate-say-3 : tie.Need-slice-aggregate-say-3
-slice-aggregate-say-3 c = sym (length-take-le _ _ (omega (arith, slice-reshare-prefix-say-2 (c .before))))
+slice-aggregate-say-3 c = sym (length-take-le _ _ (omega (arith, slice-reshare-prefix-say-2 (then3-of c))))
 
 slice-aggregate-say-4 : tie.Need-slice-aggregate-say-4
 slice-aggregate-say-4 c = search needs
@@ -86,8 +101,14 @@ slice-aggregate-say-4 c = search needs
 say-requires-2 : tie.Need-say-requires-2
 say-requires-2 c κs = search needs
 
+abbrev read-full-of : tie.After-text-length → tie.After-read-full
+read-full-of c = search
+
 same-length-3 : tie.Need-same-length-3
-same-length-3 c = c .before .before .before .before .before .before .before .before .before .before .before .before .before .before .before .before .before .before .before .before .before .before .before .before .before .before .before .before .before .before .before .before .before .before .before .before .before .before .before .before .before .read-full .kept .1 .0
+same-length-3 c =
+    let text-length : tie.After-text-length = search in
+    let read-full = read-full-of text-length in
+    read-full .read-full .kept .1 .0
 
 same-length-4 : tie.Need-same-length-4
 same-length-4 c = search needs
@@ -117,10 +138,16 @@ returns-3 : tie.Need-returns-3
 returns-3 c = search needs
 
 slice-reshare-prefix-say-3 : tie.Need-slice-reshare-prefix-say-3
-slice-reshare-prefix-say-3 c = omega (arith, c .before .before .before .before .before .before .before .before .before .before .before .before .before .before .before .before .before .before .before .before .before .before .before .before .before .before .before .before .before .find .ensures .1, c .before .before .before .before .before .before .before .before .before .before .before .before .before .before .before .before .before .before .before .before .before .before .before .before .before .before .before .before .before .before .before .before .before .before .before .before .before .before .read-full .kept .1 .0, c .before .before .before .before .before .before .before .before .before .before .before .before .before .before .before .before .before .before .before .before .before .before .before .before .before .before .before .before .before .before .before .before .before .before .before .before .before .before .before .before .before .before .before .before .before .before .before .before .before .pre .3)
+slice-reshare-prefix-say-3 c =
+    let text-length : tie.After-text-length = search in
+    let (start, read-full, find) = earlier text-length in
+    omega (arith, find .find .ensures .1, read-full .read-full .kept .1 .0, start .pre .3)
+
+abbrev else3-of : tie.After-say-arg5 → tie.Else3
+else3-of c = search
 
 slice-aggregate-say-5 : tie.Need-slice-aggregate-say-5
-slice-aggregate-say-5 c = sym (length-take-le _ _ (omega (arith, slice-reshare-prefix-say-3 (c .before))))
+slice-aggregate-say-5 c = sym (length-take-le _ _ (omega (arith, slice-reshare-prefix-say-3 (else3-of c))))
 
 slice-aggregate-say-6 : tie.Need-slice-aggregate-say-6
 slice-aggregate-say-6 c = search needs
@@ -129,7 +156,10 @@ say-requires-3 : tie.Need-say-requires-3
 say-requires-3 c κs = search needs
 
 same-length-12 : tie.Need-same-length-12
-same-length-12 c = c .before .before .before .before .before .before .before .before .before .before .before .before .before .before .before .before .before .before .before .before .before .before .before .before .before .before .before .before .before .before .before .before .before .before .before .before .before .before .before .before .before .read-full .kept .1 .0
+same-length-12 c =
+    let text-length : tie.After-text-length = search in
+    let read-full = read-full-of text-length in
+    read-full .read-full .kept .1 .0
 
 same-length-13 : tie.Need-same-length-13
 same-length-13 c = search needs

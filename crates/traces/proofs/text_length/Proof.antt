@@ -29,92 +29,135 @@ fresh-requires : tie.Need-fresh-requires Inv-loop μ-loop
 fresh-requires c κs = search needs
 
 put-head-requires : tie.Need-put-head-requires Inv-loop μ-loop
-put-head-requires c κs = omega (arith, c .before .before .before .before .before .before .before .before .before .before .pre)
+put-head-requires c κs =
+    let start : tie.Start Inv-loop μ-loop = search in
+    omega (arith, start .pre)
 
 loop-holds : tie.Need-loop-holds Inv-loop μ-loop
 loop-holds c =
-    let p = c .before .before .put-head in
-    (sending-first (lists (c .before .before .before .before .before .before .before .before .before .before .before .before .before .args .bytes .now) (atomSlots (c .before .before .before .before .before .before .before .before .before .before .before .before .before .args .starts .now) (c .before .before .before .before .before .before .before .before .before .before .before .before .before .args .ends .now)) (pairSlots (c .before .before .before .before .before .before .before .before .before .before .before .before .before .args .firsts .now) (c .before .before .before .before .before .before .before .before .before .before .before .before .before .args .rests .now))) (c .before .before .before .before .before .before .before .before .before .before .before .before .before .args .input .now) (c .before .before .before .before .before .before .before .before .before .before .before .before .before .args .out .now) (p .last .0) (c .before .before .before .before .fresh .result) (p .result) (λ i. omega (arith, c .before .before .before .before .before .before .before .before .before .before .before .before .slice-known .given i)) (c .before .before .before .before .before .before .before .before .before .before .before .before .before .pre .2) (omega (arith, p .kept .0, c .before .before .before .before .before .before .before .before .before .before .before .before .before .pre .0)) (c .before .before .before .before .fresh .ensures) (p .ensures .1) (p .ensures .0), refl, refl, refl, refl, refl, refl, refl, omega (arith, p .kept .0, c .before .before .before .before .before .before .before .before .before .before .before .before .before .pre .1))
+    let (start, slice-known, fresh, put-head) :
+    tie.Start Inv-loop μ-loop × tie.After-slice-known Inv-loop μ-loop × tie.After-fresh Inv-loop μ-loop × tie.After-put-head Inv-loop μ-loop = search in
+    let p = put-head .put-head in
+    (sending-first (lists (start .args .bytes .now) (atomSlots (start .args .starts .now) (start .args .ends .now)) (pairSlots (start .args .firsts .now) (start .args .rests .now))) (start .args .input .now) (start .args .out .now) (p .last .0) (fresh .fresh .result) (p .result) (λ i. omega (arith, slice-known .slice-known .given i)) (start .pre .2) (omega (arith, p .kept .0, start .pre .0)) (fresh .fresh .ensures) (p .ensures .1) (p .ensures .0), refl, refl, refl, refl, refl, refl, refl, omega (arith, p .kept .0, start .pre .1))
 
 run-requires : tie.Need-run-requires Inv-loop μ-loop
 run-requires c κs =
-    let i = c .before .before .before .before .before .before .loop .inv .0 in
+    let loop : tie.At-loop Inv-loop μ-loop = search in
+    let i = loop .loop .inv .0 in
     (i .ready, (i .counts, i .within, omega (arith, i .short), omega (arith, i .fits)))
 
 slice-reshare-prefix-is-next : tie.Need-slice-reshare-prefix-is-next Inv-loop μ-loop
-slice-reshare-prefix-is-next c = omega (arith, c .before .before .before .before .before .before .before .before .before .before .before .before .run .ensures .fits, c .before .before .before .before .before .before .before .before .before .before .before .before .run .kept .1 .1 .1 .1 .1 .1 .1 .1 .0)
+slice-reshare-prefix-is-next c =
+    let run : tie.After-run Inv-loop μ-loop = search in
+    omega (arith, run .run .ensures .fits, run .run .kept .1 .1 .1 .1 .1 .1 .1 .1 .0)
 
 slice-aggregate-is-next : tie.Need-slice-aggregate-is-next Inv-loop μ-loop
-slice-aggregate-is-next c = sym (length-take-le _ _ (omega (arith, c .before .before .before .before .before .before .before .before .before .before .before .before .before .run .ensures .fits, c .before .before .before .before .before .before .before .before .before .before .before .before .before .run .kept .1 .1 .1 .1 .1 .1 .1 .1 .0)))
+slice-aggregate-is-next c =
+    let run : tie.After-run Inv-loop μ-loop = search in
+    sym (length-take-le _ _ (omega (arith, run .run .ensures .fits, run .run .kept .1 .1 .1 .1 .1 .1 .1 .1 .0)))
 
 is-next-requires : tie.Need-is-next-requires Inv-loop μ-loop
-is-next-requires c κs = simp length-take (omega (arith, c .before .before .before .before .before .before .before .before .before .before .before .before .before .before .run .ensures .fits, c .before .before .before .before .before .before .before .before .before .before .before .before .before .before .run .kept .1 .1 .1 .1 .1 .1 .1 .1 .0, c .before .before .before .before .before .before .before .before .before .before .before .before .before .before .before .before .before .before .before .before .before .loop .inv .8))
+is-next-requires c κs =
+    let (loop, run) : tie.At-loop Inv-loop μ-loop × tie.After-run Inv-loop μ-loop = search in
+    simp length-take (omega (arith, run .run .ensures .fits, run .run .kept .1 .1 .1 .1 .1 .1 .1 .1 .0, loop .loop .inv .8))
 
 same-length : tie.Need-same-length Inv-loop μ-loop
-same-length c = c .before .before .before .before .before .before .before .before .before .before .before .before .before .before .before .before .before .before .run .kept .1 .0 ∙ c .before .before .before .before .before .before .before .before .before .before .before .before .before .before .before .before .before .before .before .before .before .before .before .before .before .loop .inv .1
+same-length c =
+    let (loop, run) : tie.At-loop Inv-loop μ-loop × tie.After-run Inv-loop μ-loop = search in
+    run .run .kept .1 .0 ∙ loop .loop .inv .1
 
 same-length-2 : tie.Need-same-length-2 Inv-loop μ-loop
-same-length-2 c = c .before .before .before .before .before .before .before .before .before .before .before .before .before .before .before .before .before .before .run .kept .1 .1 .0 ∙ c .before .before .before .before .before .before .before .before .before .before .before .before .before .before .before .before .before .before .before .before .before .before .before .before .before .loop .inv .2
+same-length-2 c =
+    let (loop, run) : tie.At-loop Inv-loop μ-loop × tie.After-run Inv-loop μ-loop = search in
+    run .run .kept .1 .1 .0 ∙ loop .loop .inv .2
 
 same-length-3 : tie.Need-same-length-3 Inv-loop μ-loop
-same-length-3 c = c .before .before .before .before .before .before .before .before .before .before .before .before .before .before .before .before .before .before .run .kept .1 .1 .1 .0 ∙ c .before .before .before .before .before .before .before .before .before .before .before .before .before .before .before .before .before .before .before .before .before .before .before .before .before .loop .inv .3
+same-length-3 c =
+    let (loop, run) : tie.At-loop Inv-loop μ-loop × tie.After-run Inv-loop μ-loop = search in
+    run .run .kept .1 .1 .1 .0 ∙ loop .loop .inv .3
 
 same-length-4 : tie.Need-same-length-4 Inv-loop μ-loop
-same-length-4 c = c .before .before .before .before .before .before .before .before .before .before .before .before .before .before .before .before .before .before .run .kept .1 .1 .1 .1 .0 ∙ c .before .before .before .before .before .before .before .before .before .before .before .before .before .before .before .before .before .before .before .before .before .before .before .before .before .loop .inv .4
+same-length-4 c =
+    let (loop, run) : tie.At-loop Inv-loop μ-loop × tie.After-run Inv-loop μ-loop = search in
+    run .run .kept .1 .1 .1 .1 .0 ∙ loop .loop .inv .4
 
 same-length-5 : tie.Need-same-length-5 Inv-loop μ-loop
-same-length-5 c = c .before .before .before .before .before .before .before .before .before .before .before .before .before .before .before .before .before .before .run .kept .1 .1 .1 .1 .1 .0 ∙ c .before .before .before .before .before .before .before .before .before .before .before .before .before .before .before .before .before .before .before .before .before .before .before .before .before .loop .inv .5
+same-length-5 c =
+    let (loop, run) : tie.At-loop Inv-loop μ-loop × tie.After-run Inv-loop μ-loop = search in
+    run .run .kept .1 .1 .1 .1 .1 .0 ∙ loop .loop .inv .5
 
 same-length-6 : tie.Need-same-length-6 Inv-loop μ-loop
-same-length-6 c = c .before .before .before .before .before .before .before .before .before .before .before .before .before .before .before .before .before .before .run .kept .1 .1 .1 .1 .1 .1 .1 .1 .0 ∙ c .before .before .before .before .before .before .before .before .before .before .before .before .before .before .before .before .before .before .before .before .before .before .before .before .before .loop .inv .6 ∙ c .before .before .before .before .before .before .before .before .before .before .before .before .before .before .before .before .before .before .before .before .before .before .before .before .before .before .before .before .put-head .kept .0
+same-length-6 c =
+    let (put-head, loop, run) : tie.After-put-head Inv-loop μ-loop × tie.At-loop Inv-loop μ-loop × tie.After-run Inv-loop μ-loop = search in
+    run .run .kept .1 .1 .1 .1 .1 .1 .1 .1 .0 ∙ loop .loop .inv .6 ∙ put-head .put-head .kept .0
 
 same-length-7 : tie.Need-same-length-7 Inv-loop μ-loop
-same-length-7 c = c .before .before .before .is-next .kept .1 .1 .0 ∙ c .before .before .before .before .before .before .before .before .before .before .before .before .before .before .before .before .before .before .before .before .before .before .before .before .before .loop .inv .7
+same-length-7 c =
+    let (loop, is-next) : tie.At-loop Inv-loop μ-loop × tie.After-is-next Inv-loop μ-loop = search in
+    is-next .is-next .kept .1 .1 .0 ∙ loop .loop .inv .7
 
 returns : tie.Need-returns Inv-loop μ-loop
 returns c = search needs
 
 add-sent : tie.Need-add-sent Inv-loop μ-loop
 add-sent c =
-    let h = sent-fits _ _ _ _ _ _ _ _ (c .before .before .before .before .before .before .before .before .before .before .before .before .before .before .before .before .before .before .before .before .before .before .before .before .before .loop .inv .0) _ _ (c .before .before .before .before .before .before .before .before .before .before .before .before .before .before .before .before .before .before .run .result) (c .before .before .before .before .before .before .before .before .before .before .before .before .before .before .before .before .before .before .run .ensures) (c .before .before .before .before .before .before .before .before .before .before .before .before .before .before .before .before .before .before .run .kept .1 .1 .1 .1 .1 .1 .1 .1 .0) in
+    let (loop, run) : tie.At-loop Inv-loop μ-loop × tie.After-run Inv-loop μ-loop = search in
+    let h = sent-fits _ _ _ _ _ _ _ _ (loop .loop .inv .0) _ _ (run .run .result) (run .run .ensures) (run .run .kept .1 .1 .1 .1 .1 .1 .1 .1 .0) in
     omega (arith, h)
 
 same-length-8 : tie.Need-same-length-8 Inv-loop μ-loop
-same-length-8 c = c .before .before .before .before .before .before .before .before .before .before .before .before .before .before .before .before .before .before .before .run .kept .1 .0 ∙ c .before .before .before .before .before .before .before .before .before .before .before .before .before .before .before .before .before .before .before .before .before .before .before .before .before .before .loop .inv .1
+same-length-8 c =
+    let (loop, run) : tie.At-loop Inv-loop μ-loop × tie.After-run Inv-loop μ-loop = search in
+    run .run .kept .1 .0 ∙ loop .loop .inv .1
 
 same-length-9 : tie.Need-same-length-9 Inv-loop μ-loop
-same-length-9 c = c .before .before .before .before .before .before .before .before .before .before .before .before .before .before .before .before .before .before .before .run .kept .1 .1 .0 ∙ c .before .before .before .before .before .before .before .before .before .before .before .before .before .before .before .before .before .before .before .before .before .before .before .before .before .before .loop .inv .2
+same-length-9 c =
+    let (loop, run) : tie.At-loop Inv-loop μ-loop × tie.After-run Inv-loop μ-loop = search in
+    run .run .kept .1 .1 .0 ∙ loop .loop .inv .2
 
 same-length-10 : tie.Need-same-length-10 Inv-loop μ-loop
-same-length-10 c = c .before .before .before .before .before .before .before .before .before .before .before .before .before .before .before .before .before .before .before .run .kept .1 .1 .1 .0 ∙ c .before .before .before .before .before .before .before .before .before .before .before .before .before .before .before .before .before .before .before .before .before .before .before .before .before .before .loop .inv .3
+same-length-10 c =
+    let (loop, run) : tie.At-loop Inv-loop μ-loop × tie.After-run Inv-loop μ-loop = search in
+    run .run .kept .1 .1 .1 .0 ∙ loop .loop .inv .3
 
 same-length-11 : tie.Need-same-length-11 Inv-loop μ-loop
-same-length-11 c = c .before .before .before .before .before .before .before .before .before .before .before .before .before .before .before .before .before .before .before .run .kept .1 .1 .1 .1 .0 ∙ c .before .before .before .before .before .before .before .before .before .before .before .before .before .before .before .before .before .before .before .before .before .before .before .before .before .before .loop .inv .4
+same-length-11 c =
+    let (loop, run) : tie.At-loop Inv-loop μ-loop × tie.After-run Inv-loop μ-loop = search in
+    run .run .kept .1 .1 .1 .1 .0 ∙ loop .loop .inv .4
 
 same-length-12 : tie.Need-same-length-12 Inv-loop μ-loop
-same-length-12 c = c .before .before .before .before .before .before .before .before .before .before .before .before .before .before .before .before .before .before .before .run .kept .1 .1 .1 .1 .1 .0 ∙ c .before .before .before .before .before .before .before .before .before .before .before .before .before .before .before .before .before .before .before .before .before .before .before .before .before .before .loop .inv .5
+same-length-12 c =
+    let (loop, run) : tie.At-loop Inv-loop μ-loop × tie.After-run Inv-loop μ-loop = search in
+    run .run .kept .1 .1 .1 .1 .1 .0 ∙ loop .loop .inv .5
 
 same-length-13 : tie.Need-same-length-13 Inv-loop μ-loop
-same-length-13 c = c .before .before .before .before .before .before .before .before .before .before .before .before .before .before .before .before .before .before .before .run .kept .1 .1 .1 .1 .1 .1 .1 .1 .0 ∙ c .before .before .before .before .before .before .before .before .before .before .before .before .before .before .before .before .before .before .before .before .before .before .before .before .before .before .loop .inv .6 ∙ c .before .before .before .before .before .before .before .before .before .before .before .before .before .before .before .before .before .before .before .before .before .before .before .before .before .before .before .before .before .put-head .kept .0
+same-length-13 c =
+    let (put-head, loop, run) : tie.After-put-head Inv-loop μ-loop × tie.At-loop Inv-loop μ-loop × tie.After-run Inv-loop μ-loop = search in
+    run .run .kept .1 .1 .1 .1 .1 .1 .1 .1 .0 ∙ loop .loop .inv .6 ∙ put-head .put-head .kept .0
 
 same-length-14 : tie.Need-same-length-14 Inv-loop μ-loop
-same-length-14 c = c .before .before .before .before .is-next .kept .1 .1 .0 ∙ c .before .before .before .before .before .before .before .before .before .before .before .before .before .before .before .before .before .before .before .before .before .before .before .before .before .before .loop .inv .7
+same-length-14 c =
+    let (loop, is-next) : tie.At-loop Inv-loop μ-loop × tie.After-is-next Inv-loop μ-loop = search in
+    is-next .is-next .kept .1 .1 .0 ∙ loop .loop .inv .7
 
 returns-2 : tie.Need-returns-2 Inv-loop μ-loop
 returns-2 c = search needs
 
 loop-less : tie.Need-loop-less Inv-loop μ-loop
 loop-less c =
-    let i = c .before .before .before .before .before .before .before .before .before .before .before .before .before .before .before .before .before .before .before .before .before .before .before .before .before .before .before .loop .inv .0 in
-    let p = progress _ _ _ _ _ _ _ _ (c .before .before .before .before .before .before .before .before .before .before .before .before .before .before .before .before .before .before .before .before .run .result) (c .before .before .before .before .before .before .before .before .before .before .before .before .before .before .before .before .before .before .before .before .run .ensures) (i .fits) (c .before .if2 .left) in
-    omega (arith, p, c .before .before .before .before .before .before .before .before .before .before .before .before .before .before .before .before .before .before .before .before .run .ensures .within)
+    let (loop, run, else2) : tie.At-loop Inv-loop μ-loop × tie.After-run Inv-loop μ-loop × tie.Else2 Inv-loop μ-loop = search in
+    let i = loop .loop .inv .0 in
+    let p = progress _ _ _ _ _ _ _ _ (run .run .result) (run .run .ensures) (i .fits) (else2 .if2 .left) in
+    omega (arith, p, run .run .ensures .within)
 
 loop-again : tie.Need-loop-again Inv-loop μ-loop
 loop-again c =
-    let i = c .before .before .before .before .before .before .before .before .before .before .before .before .before .before .before .before .before .before .before .before .before .before .before .before .before .before .before .loop .inv in
-    let k = c .before .before .before .before .before .before .before .before .before .before .before .before .before .before .before .before .before .before .before .before .run .kept in
-    let q = c .before .before .before .before .before .is-next .kept .1 .1 .0 in
-    (sending-more _ _ _ _ _ _ _ _ (c .before .before .before .before .before .before .before .before .before .before .before .before .before .before .before .before .before .before .before .before .before .before .before .before .before .before .before .loop .inv .0) _ _ (c .before .before .before .before .before .before .before .before .before .before .before .before .before .before .before .before .before .before .before .before .run .result) (c .before .before .before .before .before .before .before .before .before .before .before .before .before .before .before .before .before .before .before .before .run .ensures) (c .before .before .before .before .before .before .before .before .before .before .before .before .before .before .before .before .before .before .before .before .run .kept .1 .1 .1 .1 .1 .1 .1 .1 .0) (c .before .if2 .left), k .1 .0 ∙ i .1, k .1 .1 .0 ∙ i .2, k .1 .1 .1 .0 ∙ i .3, k .1 .1 .1 .1 .0 ∙ i .4, k .1 .1 .1 .1 .1 .0 ∙ i .5, k .1 .1 .1 .1 .1 .1 .1 .1 .0 ∙ i .6, q ∙ i .7, omega (arith, q, k .1 .1 .1 .1 .1 .1 .1 .1 .0, i .8))
+    let (loop, run, is-next, else2) :
+    tie.At-loop Inv-loop μ-loop × tie.After-run Inv-loop μ-loop × tie.After-is-next Inv-loop μ-loop × tie.Else2 Inv-loop μ-loop = search in
+    let i = loop .loop .inv in
+    let k = run .run .kept in
+    let q = is-next .is-next .kept .1 .1 .0 in
+    (sending-more _ _ _ _ _ _ _ _ (loop .loop .inv .0) _ _ (run .run .result) (run .run .ensures) (run .run .kept .1 .1 .1 .1 .1 .1 .1 .1 .0) (else2 .if2 .left), k .1 .0 ∙ i .1, k .1 .1 .0 ∙ i .2, k .1 .1 .1 .0 ∙ i .3, k .1 .1 .1 .1 .0 ∙ i .4, k .1 .1 .1 .1 .1 .0 ∙ i .5, k .1 .1 .1 .1 .1 .1 .1 .1 .0 ∙ i .6, q ∙ i .7, omega (arith, q, k .1 .1 .1 .1 .1 .1 .1 .1 .0, i .8))
 
 pub text-length-spec : {M : Type 1} → statement M
 text-length-spec =

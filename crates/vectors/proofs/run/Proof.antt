@@ -62,7 +62,9 @@ cut-requires : tie.Need-cut-requires
 cut-requires c κs = search needs
 
 same-length : tie.Need-same-length
-same-length c = c .before .before .before .before .before .before .before .before .cut .kept .1 .0 ∙ c .before .before .before .before .before .before .before .before .before .before .before .before .before .before .before .before .before .before .before .before .before .before .before .before .before .before .before .before .before .before .before .before .before .bytes .kept .0
+same-length c =
+    let (bytes, cut) : tie.After-bytes × tie.After-cut = search in
+    cut .cut .kept .1 .0 ∙ bytes .bytes .kept .0
 
 same-length-2 : tie.Need-same-length-2
 same-length-2 c = search needs

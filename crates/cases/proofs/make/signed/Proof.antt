@@ -27,7 +27,9 @@ cast-top : tie.Need-cast-top
 cast-top c = search needs
 
 sub-result : tie.Need-sub-result
-sub-result c = low-fits (c .before .before .before .args .size) (omega arith) (omega arith)
+sub-result c =
+    let start : tie.Start = search in
+    low-fits (start .args .size) (omega arith) (omega arith)
 
 returns-5 : tie.Need-returns-5
 returns-5 c = search needs

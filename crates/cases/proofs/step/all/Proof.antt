@@ -52,10 +52,16 @@ one-requires c κs = search needs
 loop-less : tie.Need-loop-less Inv-loop μ-loop
 loop-less c = search needs
 
+abbrev one-of : tie.After-slice-known10 Inv-loop μ-loop → tie.After-one Inv-loop μ-loop
+one-of c = search
+
+abbrev loop-of : tie.After-slice-known10 Inv-loop μ-loop → tie.At-loop Inv-loop μ-loop
+loop-of c = search
+
 loop-again : tie.Need-loop-again Inv-loop μ-loop
 loop-again c =
-    let one = c .before .before .before .before .before .before .before .before .before .before in
-    let inv = one .before .before .before .before .before .before .before .before .before .before .before .loop .inv in
+    let one = one-of c in
+    let inv = loop-of c .loop .inv in
     let kept = one .one .kept .1 in
     (omega arith, kept .0 ∙ inv .1, kept .1 .0 ∙ inv .2, kept .1 .1 .0 ∙ inv .3, kept .1 .1 .1 .0 ∙ inv .4, kept .1 .1 .1 .1 .0 ∙ inv .5)
 

@@ -7,7 +7,9 @@ use Rattle.clvm_allocator.proofs.bits.clvm_fits_in_small_atom.Statement
 use Rattle.clvm_allocator.proofs.bits.clvm_fits_in_small_atom.Tie as tie
 
 returns : tie.Need-returns
-returns c = c .of-fits .ensures ∙ ap (λ x. optionC (says x)) (c .before .fits-in-small-atom .ensures)
+returns c =
+    let fits-in-small-atom : tie.After-fits-in-small-atom = search in
+    c .of-fits .ensures ∙ ap (λ x. optionC (says x)) (fits-in-small-atom .fits-in-small-atom .ensures)
 
 pub clvm-fits-in-small-atom-spec : {M : Type 1} → statement M
 clvm-fits-in-small-atom-spec = tie.close (tie.spec (λ c κs. search needs) (λ c κs. search needs) returns)

@@ -6,7 +6,9 @@ use Rattle.clvm_allocator.proofs.bits.clvm_index.Statement.{statement}
 use Rattle.clvm_allocator.proofs.bits.clvm_index.Tie as tie
 
 returns : tie.Need-returns
-returns c = c .of-number .ensures ∙ ap numberC (c .before .index .ensures)
+returns c =
+    let index : tie.After-index = search in
+    c .of-number .ensures ∙ ap numberC (index .index .ensures)
 
 pub clvm-index-spec : {M : Type 1} → statement M
 clvm-index-spec = tie.close (tie.spec (λ c κs. search needs) (λ c κs. search needs) returns)

@@ -7,7 +7,9 @@ use Rattle.clvm_allocator.proofs.bits.clvm_is_atom.Statement.{statement
 use Rattle.clvm_allocator.proofs.bits.clvm_is_atom.Tie as tie
 
 returns : tie.Need-returns
-returns c = c .of-truth .ensures ∙ ap (λ x. numberC (saysOf bit x)) (c .before .is-atom .ensures)
+returns c =
+    let is-atom : tie.After-is-atom = search in
+    c .of-truth .ensures ∙ ap (λ x. numberC (saysOf bit x)) (is-atom .is-atom .ensures)
 
 pub clvm-is-atom-spec : {M : Type 1} → statement M
 clvm-is-atom-spec = tie.close (tie.spec (λ c κs. search needs) (λ c κs. search needs) returns)

@@ -7,7 +7,9 @@ use Rattle.clvm_allocator.proofs.bits.clvm_is_pair.Statement.{statement
 use Rattle.clvm_allocator.proofs.bits.clvm_is_pair.Tie as tie
 
 returns : tie.Need-returns
-returns c = c .of-truth .ensures ∙ ap (λ x. numberC (saysOf bit x)) (c .before .is-pair .ensures)
+returns c =
+    let is-pair : tie.After-is-pair = search in
+    c .of-truth .ensures ∙ ap (λ x. numberC (saysOf bit x)) (is-pair .is-pair .ensures)
 
 pub clvm-is-pair-spec : {M : Type 1} → statement M
 clvm-is-pair-spec = tie.close (tie.spec (λ c κs. search needs) (λ c κs. search needs) returns)

@@ -7,7 +7,9 @@ use Rattle.clvm_allocator.proofs.bits.clvm_object_type.Statement.{state
 use Rattle.clvm_allocator.proofs.bits.clvm_object_type.Tie as tie
 
 returns : tie.Need-returns
-returns c = c .of-kind .ensures ∙ ap (λ x. numberC (saysOf kindNumber x)) (c .before .object-type .ensures)
+returns c =
+    let object-type : tie.After-object-type = search in
+    c .of-kind .ensures ∙ ap (λ x. numberC (saysOf kindNumber x)) (object-type .object-type .ensures)
 
 pub clvm-object-type-spec : {M : Type 1} → statement M
 clvm-object-type-spec = tie.close (tie.spec (λ c κs. search needs) (λ c κs. search needs) returns)

@@ -6,7 +6,9 @@ use Rattle.clvm_allocator.proofs.creation.clvm_add_ghost_pair.Statement
 use Rattle.clvm_allocator.proofs.creation.clvm_add_ghost_pair.Tie as tie
 
 returns : tie.Need-returns
-returns c = crossed-by doneC _ _ (c .of-verdict .ensures) (c .before .of-record .ensures) (rw (c .before .before .before .«record» .ensures) at (c .before .before .add-ghost-pair .ensures))
+returns c =
+    let (at-record, add-ghost-pair, of-record) : tie.After-record × tie.After-add-ghost-pair × tie.After-of-record = search in
+    crossed-by doneC _ _ (c .of-verdict .ensures) (of-record .of-record .ensures) (rw (at-record .«record» .ensures) at (add-ghost-pair .add-ghost-pair .ensures))
 
 pub clvm-add-ghost-pair-spec : {M : Type 1} → statement M
 clvm-add-ghost-pair-spec =

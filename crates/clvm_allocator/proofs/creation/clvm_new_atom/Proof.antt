@@ -5,7 +5,9 @@ use Rattle.clvm_allocator.proofs.creation.clvm_new_atom.Statement.{stat
 use Rattle.clvm_allocator.proofs.creation.clvm_new_atom.Tie as tie
 
 returns : tie.Need-returns
-returns c = crossed-row _ _ (c .of-answer .ensures) (c .before .before .before .before .before .before .before .new-atom .ensures)
+returns c =
+    let new-atom : tie.After-new-atom = search in
+    crossed-row _ _ (c .of-answer .ensures) (new-atom .new-atom .ensures)
 
 pub clvm-new-atom-spec : {M : Type 1} → statement M
 clvm-new-atom-spec =

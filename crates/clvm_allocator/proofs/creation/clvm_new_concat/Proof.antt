@@ -6,7 +6,9 @@ use Rattle.clvm_allocator.proofs.creation.clvm_new_concat.Statement.{st
 use Rattle.clvm_allocator.proofs.creation.clvm_new_concat.Tie as tie
 
 returns : tie.Need-returns
-returns c = crossed-by answerC _ _ (c .of-answer .ensures) (c .before .of-record .ensures) (rw (c .before .before .before .before .before .before .before .before .before .before .before .before .«record» .ensures) at (c .before .before .before .before .before .before .before .before .new-concat .ensures))
+returns c =
+    let (at-record, new-concat, of-record) : tie.After-record × tie.After-new-concat × tie.After-of-record = search in
+    crossed-by answerC _ _ (c .of-answer .ensures) (of-record .of-record .ensures) (rw (at-record .«record» .ensures) at (new-concat .new-concat .ensures))
 
 pub clvm-new-concat-spec : {M : Type 1} → statement M
 clvm-new-concat-spec =

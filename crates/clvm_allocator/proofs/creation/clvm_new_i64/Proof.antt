@@ -7,10 +7,14 @@ use Rattle.clvm_allocator.proofs.creation.clvm_new_i64.Statement.{state
 use Rattle.clvm_allocator.proofs.creation.clvm_new_i64.Tie as tie
 
 slice-aggregate-clvm-new-atom : tie.Need-slice-aggregate-clvm-new-atom
-slice-aggregate-clvm-new-atom c = written-length _ _ _ _ (c .before .before .before .before .before .before .write-i64 .ensures)
+slice-aggregate-clvm-new-atom c =
+    let write-i64 : tie.After-write-i64 = search in
+    written-length _ _ _ _ (write-i64 .write-i64 .ensures)
 
 returns : tie.Need-returns
-returns c = simp (toZ-ofZ w64 (c .before .before .before .before .before .before .before .before .before .before .before .before .before .before .before .before .before .before .args .x) (c .before .before .before .before .before .before .before .before .before .before .before .before .before .before .before .before .before .before .fits .x), c .before .before .before .before .before .before .clvm-new-atom .ensures, written-part _ _ _ _ (c .before .before .before .before .before .before .before .before .before .before .before .before .before .write-i64 .ensures))
+returns c =
+    let (start, write-i64, clvm-new-atom) : tie.Start × tie.After-write-i64 × tie.After-clvm-new-atom = search in
+    simp (toZ-ofZ w64 (start .args .x) (start .fits .x), clvm-new-atom .clvm-new-atom .ensures, written-part _ _ _ _ (write-i64 .write-i64 .ensures))
 
 pub clvm-new-i64-spec : {M : Type 1} → statement M
 clvm-new-i64-spec =

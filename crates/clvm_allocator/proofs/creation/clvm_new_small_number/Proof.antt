@@ -6,7 +6,9 @@ use Rattle.clvm_allocator.proofs.creation.clvm_new_small_number.Stateme
 use Rattle.clvm_allocator.proofs.creation.clvm_new_small_number.Tie as tie
 
 returns : tie.Need-returns
-returns c = crossed-by answerC _ _ (c .of-answer .ensures) (c .before .of-record .ensures) (rw (c .before .before .before .«record» .ensures) at (c .before .before .new-small-number .ensures))
+returns c =
+    let (at-record, new-small-number, of-record) : tie.After-record × tie.After-new-small-number × tie.After-of-record = search in
+    crossed-by answerC _ _ (c .of-answer .ensures) (of-record .of-record .ensures) (rw (at-record .«record» .ensures) at (new-small-number .new-small-number .ensures))
 
 pub clvm-new-small-number-spec : {M : Type 1} → statement M
 clvm-new-small-number-spec =

@@ -5,10 +5,14 @@ use Rattle.clvm_allocator.proofs.creation.clvm_new_u64.Statement.{state
 use Rattle.clvm_allocator.proofs.creation.clvm_new_u64.Tie as tie
 
 slice-aggregate-clvm-new-atom : tie.Need-slice-aggregate-clvm-new-atom
-slice-aggregate-clvm-new-atom c = written-length _ _ _ _ (c .before .before .before .before .before .before .write-u64 .ensures)
+slice-aggregate-clvm-new-atom c =
+    let write-u64 : tie.After-write-u64 = search in
+    written-length _ _ _ _ (write-u64 .write-u64 .ensures)
 
 returns : tie.Need-returns
-returns c = simp (c .before .before .before .before .before .before .clvm-new-atom .ensures, written-part _ _ _ _ (c .before .before .before .before .before .before .before .before .before .before .before .before .before .write-u64 .ensures))
+returns c =
+    let (write-u64, clvm-new-atom) : tie.After-write-u64 × tie.After-clvm-new-atom = search in
+    simp (clvm-new-atom .clvm-new-atom .ensures, written-part _ _ _ _ (write-u64 .write-u64 .ensures))
 
 pub clvm-new-u64-spec : {M : Type 1} → statement M
 clvm-new-u64-spec =

@@ -6,7 +6,9 @@ use Rattle.clvm_allocator.proofs.creation.clvm_remove_ghost_pair.Statem
 use Rattle.clvm_allocator.proofs.creation.clvm_remove_ghost_pair.Tie as tie
 
 returns : tie.Need-returns
-returns c = crossed-by doneC _ _ (c .of-verdict .ensures) (c .before .of-record .ensures) (rw (c .before .before .before .«record» .ensures) at (c .before .before .remove-ghost-pair .ensures))
+returns c =
+    let (at-record, remove-ghost-pair, of-record) : tie.After-record × tie.After-remove-ghost-pair × tie.After-of-record = search in
+    crossed-by doneC _ _ (c .of-verdict .ensures) (of-record .of-record .ensures) (rw (at-record .«record» .ensures) at (remove-ghost-pair .remove-ghost-pair .ensures))
 
 pub clvm-remove-ghost-pair-spec : {M : Type 1} → statement M
 clvm-remove-ghost-pair-spec =

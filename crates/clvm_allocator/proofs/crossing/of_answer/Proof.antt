@@ -4,10 +4,14 @@ use Rattle.clvm_allocator.proofs.crossing.of_answer.Statement.{statemen
 use Rattle.clvm_allocator.proofs.crossing.of_answer.Tie as tie
 
 returns : tie.Need-returns
-returns c = simp (c .before .found .given .1)
+returns c =
+    let found : tie.After-found = search in
+    simp (found .found .given .1)
 
 returns-2 : tie.Need-returns-2
-returns-2 c = simp (c .number-of .ensures, c .before .before .found2 .given .1)
+returns-2 c =
+    let found2 : tie.After-found2 = search in
+    simp (c .number-of .ensures, found2 .found2 .given .1)
 
 pub of-answer-spec : {M : Type 1} → statement M
 of-answer-spec =

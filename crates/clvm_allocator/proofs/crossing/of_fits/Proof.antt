@@ -4,7 +4,9 @@ use Rattle.clvm_allocator.proofs.crossing.of_fits.Statement.{statement}
 use Rattle.clvm_allocator.proofs.crossing.of_fits.Tie as tie
 
 returns : tie.Need-returns
-returns c = simp (c .of-small .ensures, c .before .before .found .given .1)
+returns c =
+    let found : tie.After-found = search in
+    simp (c .of-small .ensures, found .found .given .1)
 
 pub of-fits-spec : {M : Type 1} → statement M
 of-fits-spec =

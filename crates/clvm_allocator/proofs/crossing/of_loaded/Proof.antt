@@ -9,11 +9,14 @@ use Rattle.clvm_allocator.proofs.crossing.of_loaded.Tie as tie
 of-answer-requires : tie.Need-of-answer-requires
 of-answer-requires c κs = search needs
 
+abbrev start-of : tie.After-of-answer → tie.Start
+start-of c = search
+
 returns : tie.Need-returns
 returns c = ap with-place (c .of-answer .ensures)
   where
     with-place : CAnswer → CLoaded
-    with-place t = record { code = t .code; node = t .node; at = c .before .args .at }
+    with-place t = record { code = t .code; node = t .node; at = start-of c .args .at }
 
 pub of-loaded-spec : {M : Type 1} → statement M
 of-loaded-spec = tie.close (tie.spec of-answer-requires returns)

@@ -4,16 +4,24 @@ use Rattle.clvm_allocator.proofs.crossing.of_maybe.Statement.{statement
 use Rattle.clvm_allocator.proofs.crossing.of_maybe.Tie as tie
 
 returns : tie.Need-returns
-returns c = simp (c .outcome .ensures, c .before .enum-told .given .1)
+returns c =
+    let told : tie.After-enum-told = search in
+    simp (c .outcome .ensures, told .enum-told .given .1)
 
 returns-2 : tie.Need-returns-2
-returns-2 c = simp (c .outcome2 .ensures, c .before .before .found .given .1)
+returns-2 c =
+    let found : tie.After-found = search in
+    simp (c .outcome2 .ensures, found .found .given .1)
 
 returns-3 : tie.Need-returns-3
-returns-3 c = simp (c .outcome3 .ensures, c .before .enum-told2 .given .1)
+returns-3 c =
+    let told2 : tie.After-enum-told2 = search in
+    simp (c .outcome3 .ensures, told2 .enum-told2 .given .1)
 
 returns-4 : tie.Need-returns-4
-returns-4 c = simp (c .number-of .ensures, c .before .before .found2 .given .1)
+returns-4 c =
+    let found2 : tie.After-found2 = search in
+    simp (c .number-of .ensures, found2 .found2 .given .1)
 
 pub of-maybe-spec : {M : Type 1} → statement M
 of-maybe-spec =

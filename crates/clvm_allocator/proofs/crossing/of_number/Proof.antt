@@ -4,10 +4,14 @@ use Rattle.clvm_allocator.proofs.crossing.of_number.Statement.{statemen
 use Rattle.clvm_allocator.proofs.crossing.of_number.Tie as tie
 
 returns : tie.Need-returns
-returns c = simp (c .accepted .ensures, c .before .before .found .given .1)
+returns c =
+    let found : tie.After-found = search in
+    simp (c .accepted .ensures, found .found .given .1)
 
 returns-2 : tie.Need-returns-2
-returns-2 c = simp (c .refused .ensures, c .before .before .found2 .given .1)
+returns-2 c =
+    let found2 : tie.After-found2 = search in
+    simp (c .refused .ensures, found2 .found2 .given .1)
 
 pub of-number-spec : {M : Type 1} → statement M
 of-number-spec =

@@ -7,10 +7,14 @@ use Rattle.clvm_allocator.proofs.crossing.of_verdict.Statement.{stateme
 use Rattle.clvm_allocator.proofs.crossing.of_verdict.Tie as tie
 
 returns : tie.Need-returns
-returns c = c .done .ensures ∙ ap (λ v. doneC (verdictPaper v)) (sym (c .before .enum-told .given .1))
+returns c =
+    let told : tie.After-enum-told = search in
+    c .done .ensures ∙ ap (λ v. doneC (verdictPaper v)) (sym (told .enum-told .given .1))
 
 returns-2 : tie.Need-returns-2
-returns-2 c = c .not-done .ensures ∙ ap (λ v. doneC (verdictPaper v)) (sym (c .before .before .found .given .1))
+returns-2 c =
+    let found : tie.After-found = search in
+    c .not-done .ensures ∙ ap (λ v. doneC (verdictPaper v)) (sym (found .found .given .1))
 
 pub of-verdict-spec : {M : Type 1} → statement M
 of-verdict-spec =

@@ -32,7 +32,9 @@ same-length-5 : tie.Need-same-length-5
 same-length-5 c = search needs
 
 returns : tie.Need-returns
-returns c = read-by _ _ (c .of-loaded .ensures) (c .before .of-record .ensures) (rw (c .before .before .before .before .before .before .before .before .before .before .before .before .before .before .before .before .before .before .«record» .ensures) at (c .before .before .before .before .before .before .before .before .before .before .before .before .load .ensures))
+returns c =
+    let (at-record, load, of-record) : tie.After-record × tie.After-load × tie.After-of-record = search in
+    read-by _ _ (c .of-loaded .ensures) (of-record .of-record .ensures) (rw (at-record .«record» .ensures) at (load .load .ensures))
 
 pub clvm-load-spec : {M : Type 1} → statement M
 clvm-load-spec =

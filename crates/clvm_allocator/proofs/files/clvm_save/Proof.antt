@@ -17,7 +17,9 @@ same-length : tie.Need-same-length
 same-length c = search needs
 
 returns : tie.Need-returns
-returns c = written-by _ _ (c .of-number .ensures) (rw (c .before .before .before .before .before .«record» .ensures) at (c .before .before .before .save .ensures))
+returns c =
+    let (at-record, save) : tie.After-record × tie.After-save = search in
+    written-by _ _ (c .of-number .ensures) (rw (at-record .«record» .ensures) at (save .save .ensures))
 
 pub clvm-save-spec : {M : Type 1} → statement M
 clvm-save-spec =

@@ -10,28 +10,34 @@ use Rattle.clvm_allocator.proofs.lookup.clvm_atom.Statement.{statement}
 use Rattle.clvm_allocator.proofs.lookup.clvm_atom.Tie as tie
 
 sub-part-at : tie.Need-sub-part-at
-sub-part-at c = omega (arith, part-says _ _ _ _ _ (sym (c .before .before .before .before .before .filled .ensures .0) ∙ ap atomPaper (c .before .found .given .1)))
+sub-part-at c =
+    let (filled, found) : tie.After-filled × tie.After-found = search in
+    omega (arith, part-says _ _ _ _ _ (sym (filled .filled .ensures .0) ∙ ap atomPaper (found .found .given .1)))
 
 sub-part-at-2 : tie.Need-sub-part-at-2
 sub-part-at-2 c =
-    let low = part-says _ _ _ _ _ (sym (c .before .before .before .before .before .before .filled .ensures .0) ∙ ap atomPaper (c .before .before .found2 .given .1)) .0 in
+    let (filled, found2) : tie.After-filled × tie.After-found2 = search in
+    let low = part-says _ _ _ _ _ (sym (filled .filled .ensures .0) ∙ ap atomPaper (found2 .found2 .given .1)) .0 in
     omega (arith, c .len-for-value .ensures, small-length _ low)
 
 returns : tie.Need-returns
 returns c =
-    let told = rw (c .before .before .before .before .before .before .before .before .«record» .ensures) at (c .before .before .before .before .before .before .filled .ensures) in
-    (c .part-at .ensures ∙ ap partC (sym (ap atomPaper (c .before .before .found .given .1)) ∙ told .0), told .1)
+    let (at-record, filled, found) : tie.After-record × tie.After-filled × tie.After-found = search in
+    let told = rw (at-record .«record» .ensures) at (filled .filled .ensures) in
+    (c .part-at .ensures ∙ ap partC (sym (ap atomPaper (found .found .given .1)) ∙ told .0), told .1)
 
 returns-2 : tie.Need-returns-2
 returns-2 c =
-    let told = rw (c .before .before .before .before .before .before .before .before .before .«record» .ensures) at (c .before .before .before .before .before .before .before .filled .ensures) in
-    let part = rw (c .before .len-for-value .ensures) at (c .part-at2 .ensures) in
-    (part ∙ ap partC (sym (ap atomPaper (c .before .before .before .found2 .given .1)) ∙ told .0), told .1)
+    let (at-record, filled, found2, len-for-value) : tie.After-record × tie.After-filled × tie.After-found2 × tie.After-len-for-value = search in
+    let told = rw (at-record .«record» .ensures) at (filled .filled .ensures) in
+    let part = rw (len-for-value .len-for-value .ensures) at (c .part-at2 .ensures) in
+    (part ∙ ap partC (sym (ap atomPaper (found2 .found2 .given .1)) ∙ told .0), told .1)
 
 returns-3 : tie.Need-returns-3
 returns-3 c =
-    let told = rw (c .before .before .before .before .before .before .before .before .«record» .ensures) at (c .before .before .before .before .before .before .filled .ensures) in
-    (c .no-part .ensures ∙ ap partC (sym (ap atomPaper (c .before .before .found3 .given .1)) ∙ told .0), told .1)
+    let (at-record, filled, found3) : tie.After-record × tie.After-filled × tie.After-found3 = search in
+    let told = rw (at-record .«record» .ensures) at (filled .filled .ensures) in
+    (c .no-part .ensures ∙ ap partC (sym (ap atomPaper (found3 .found3 .given .1)) ∙ told .0), told .1)
 
 pub clvm-atom-spec : {M : Type 1} → statement M
 clvm-atom-spec =

@@ -7,7 +7,9 @@ use Rattle.clvm_allocator.proofs.lookup.clvm_atom_eq.Statement.{stateme
 use Rattle.clvm_allocator.proofs.lookup.clvm_atom_eq.Tie as tie
 
 returns : tie.Need-returns
-returns c = c .of-truth .ensures ∙ ap (λ b. numberC (saysOf bit b)) (rw (c .before .before .«record» .ensures) at (c .before .atom-eq .ensures))
+returns c =
+    let (at-record, atom-eq) : tie.After-record × tie.After-atom-eq = search in
+    c .of-truth .ensures ∙ ap (λ b. numberC (saysOf bit b)) (rw (at-record .«record» .ensures) at (atom-eq .atom-eq .ensures))
 
 pub clvm-atom-eq-spec : {M : Type 1} → statement M
 clvm-atom-eq-spec =

@@ -6,7 +6,9 @@ use Rattle.clvm_allocator.proofs.lookup.clvm_atom_len.Statement.{statem
 use Rattle.clvm_allocator.proofs.lookup.clvm_atom_len.Tie as tie
 
 returns : tie.Need-returns
-returns c = c .of-number .ensures ∙ ap numberC (rw (c .before .before .«record» .ensures) at (c .before .atom-len .ensures))
+returns c =
+    let (at-record, atom-len) : tie.After-record × tie.After-atom-len = search in
+    c .of-number .ensures ∙ ap numberC (rw (at-record .«record» .ensures) at (atom-len .atom-len .ensures))
 
 pub clvm-atom-len-spec : {M : Type 1} → statement M
 clvm-atom-len-spec =

@@ -6,7 +6,9 @@ use Rattle.clvm_allocator.proofs.lookup.clvm_checkpoint_node_status.Sta
 use Rattle.clvm_allocator.proofs.lookup.clvm_checkpoint_node_status.Tie as tie
 
 returns : tie.Need-returns
-returns c = c .of-status .ensures ∙ ap statusC (rw (c .before .before .before .«record» .ensures, c .before .before .counts .ensures) at (c .before .checkpoint-node-status .ensures))
+returns c =
+    let (at-record, counts, checkpoint-node-status) : tie.After-record × tie.After-counts × tie.After-checkpoint-node-status = search in
+    c .of-status .ensures ∙ ap statusC (rw (at-record .«record» .ensures, counts .counts .ensures) at (checkpoint-node-status .checkpoint-node-status .ensures))
 
 pub clvm-checkpoint-node-status-spec : {M : Type 1} → statement M
 clvm-checkpoint-node-status-spec =

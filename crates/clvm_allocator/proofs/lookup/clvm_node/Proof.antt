@@ -6,7 +6,9 @@ use Rattle.clvm_allocator.proofs.lookup.clvm_node.Statement.{statement}
 use Rattle.clvm_allocator.proofs.lookup.clvm_node.Tie as tie
 
 returns : tie.Need-returns
-returns c = c .of-visitor .ensures ∙ ap visitedC (rw (c .before .before .«record» .ensures) at (c .before .node .ensures))
+returns c =
+    let (at-record, node) : tie.After-record × tie.After-node = search in
+    c .of-visitor .ensures ∙ ap visitedC (rw (at-record .«record» .ensures) at (node .node .ensures))
 
 pub clvm-node-spec : {M : Type 1} → statement M
 clvm-node-spec =

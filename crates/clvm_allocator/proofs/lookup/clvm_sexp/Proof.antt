@@ -6,7 +6,9 @@ use Rattle.clvm_allocator.proofs.lookup.clvm_sexp.Statement.{statement}
 use Rattle.clvm_allocator.proofs.lookup.clvm_sexp.Tie as tie
 
 returns : tie.Need-returns
-returns c = c .of-sexp .ensures ∙ ap childrenC (rw (c .before .before .«record» .ensures) at (c .before .sexp .ensures))
+returns c =
+    let (at-record, sexp) : tie.After-record × tie.After-sexp = search in
+    c .of-sexp .ensures ∙ ap childrenC (rw (at-record .«record» .ensures) at (sexp .sexp .ensures))
 
 pub clvm-sexp-spec : {M : Type 1} → statement M
 clvm-sexp-spec =

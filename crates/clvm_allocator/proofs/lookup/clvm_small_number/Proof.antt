@@ -6,7 +6,9 @@ use Rattle.clvm_allocator.proofs.lookup.clvm_small_number.Statement.{st
 use Rattle.clvm_allocator.proofs.lookup.clvm_small_number.Tie as tie
 
 returns : tie.Need-returns
-returns c = c .of-small .ensures ∙ ap optionC (rw (c .before .before .«record» .ensures) at (c .before .small-number .ensures))
+returns c =
+    let (at-record, small-number) : tie.After-record × tie.After-small-number = search in
+    c .of-small .ensures ∙ ap optionC (rw (at-record .«record» .ensures) at (small-number .small-number .ensures))
 
 pub clvm-small-number-spec : {M : Type 1} → statement M
 clvm-small-number-spec =

@@ -6,7 +6,9 @@ use Rattle.clvm_allocator.proofs.record.clvm_allocated_atom_count.State
 use Rattle.clvm_allocator.proofs.record.clvm_allocated_atom_count.Tie as tie
 
 returns : tie.Need-returns
-returns c = c .of-number .ensures ∙ ap numberC (rw (c .before .before .«record» .ensures) at (c .before .allocated-atom-count .ensures))
+returns c =
+    let (at-record, allocated-atom-count) : tie.After-record × tie.After-allocated-atom-count = search in
+    c .of-number .ensures ∙ ap numberC (rw (at-record .«record» .ensures) at (allocated-atom-count .allocated-atom-count .ensures))
 
 pub clvm-allocated-atom-count-spec : {M : Type 1} → statement M
 clvm-allocated-atom-count-spec =

@@ -6,7 +6,9 @@ use Rattle.clvm_allocator.proofs.record.clvm_allocated_heap_size.Statem
 use Rattle.clvm_allocator.proofs.record.clvm_allocated_heap_size.Tie as tie
 
 returns : tie.Need-returns
-returns c = c .of-number .ensures ∙ ap numberC (rw (c .before .before .«record» .ensures) at (c .before .allocated-heap-size .ensures))
+returns c =
+    let (at-record, allocated-heap-size) : tie.After-record × tie.After-allocated-heap-size = search in
+    c .of-number .ensures ∙ ap numberC (rw (at-record .«record» .ensures) at (allocated-heap-size .allocated-heap-size .ensures))
 
 pub clvm-allocated-heap-size-spec : {M : Type 1} → statement M
 clvm-allocated-heap-size-spec =

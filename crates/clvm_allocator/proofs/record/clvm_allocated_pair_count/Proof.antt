@@ -6,7 +6,9 @@ use Rattle.clvm_allocator.proofs.record.clvm_allocated_pair_count.State
 use Rattle.clvm_allocator.proofs.record.clvm_allocated_pair_count.Tie as tie
 
 returns : tie.Need-returns
-returns c = c .of-number .ensures ∙ ap numberC (rw (c .before .before .«record» .ensures) at (c .before .allocated-pair-count .ensures))
+returns c =
+    let (at-record, allocated-pair-count) : tie.After-record × tie.After-allocated-pair-count = search in
+    c .of-number .ensures ∙ ap numberC (rw (at-record .«record» .ensures) at (allocated-pair-count .allocated-pair-count .ensures))
 
 pub clvm-allocated-pair-count-spec : {M : Type 1} → statement M
 clvm-allocated-pair-count-spec =

@@ -6,7 +6,9 @@ use Rattle.clvm_allocator.proofs.record.clvm_atom_count.Statement.{stat
 use Rattle.clvm_allocator.proofs.record.clvm_atom_count.Tie as tie
 
 returns : tie.Need-returns
-returns c = c .of-number .ensures ∙ ap numberC (rw (c .before .before .«record» .ensures) at (c .before .atom-count .ensures))
+returns c =
+    let (at-record, atom-count) : tie.After-record × tie.After-atom-count = search in
+    c .of-number .ensures ∙ ap numberC (rw (at-record .«record» .ensures) at (atom-count .atom-count .ensures))
 
 pub clvm-atom-count-spec : {M : Type 1} → statement M
 clvm-atom-count-spec =

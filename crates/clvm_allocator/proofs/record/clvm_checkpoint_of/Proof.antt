@@ -10,13 +10,15 @@ use Rattle.clvm_allocator.proofs.record.clvm_checkpoint_of.Tie as tie
 
 returns : tie.Need-returns
 returns c =
-    let told = rw (c .before .before .before .before .before .before .«record» .ensures) at (c .before .before .before .before .before .checkpoint .ensures) in
-    ap₂ (λ r row. given r row noLists) (c .done .ensures) (c .before .of-plain .ensures) ∙ ap (takenC plainRow (c .before .before .before .before .before .before .before .args .k .now)) (sym (ap takenPaper (c .before .before .before .found .given .1)) ∙ told)
+    let (start, at-record, checkpoint, found, of-plain) : tie.Start × tie.After-record × tie.After-checkpoint × tie.After-found × tie.After-of-plain = search in
+    let told = rw (at-record .«record» .ensures) at (checkpoint .checkpoint .ensures) in
+    ap₂ (λ r row. given r row noLists) (c .done .ensures) (of-plain .of-plain .ensures) ∙ ap (takenC plainRow (start .args .k .now)) (sym (ap takenPaper (found .found .given .1)) ∙ told)
 
 returns-2 : tie.Need-returns-2
 returns-2 c =
-    let told = rw (c .before .before .before .before .before .«record» .ensures) at (c .before .before .before .before .checkpoint .ensures) in
-    ap (λ r. given r (c .before .before .before .before .before .before .args .k .now) noLists) (c .not-done .ensures) ∙ ap (takenC plainRow (c .before .before .before .before .before .before .args .k .now)) (sym (ap takenPaper (c .before .before .found2 .given .1)) ∙ told)
+    let (start, at-record, checkpoint, found2) : tie.Start × tie.After-record × tie.After-checkpoint × tie.After-found2 = search in
+    let told = rw (at-record .«record» .ensures) at (checkpoint .checkpoint .ensures) in
+    ap (λ r. given r (start .args .k .now) noLists) (c .not-done .ensures) ∙ ap (takenC plainRow (start .args .k .now)) (sym (ap takenPaper (found2 .found2 .given .1)) ∙ told)
 
 pub clvm-checkpoint-of-spec : {M : Type 1} → statement M
 clvm-checkpoint-of-spec =

@@ -6,7 +6,9 @@ use Rattle.clvm_allocator.proofs.record.clvm_heap_size.Statement.{state
 use Rattle.clvm_allocator.proofs.record.clvm_heap_size.Tie as tie
 
 returns : tie.Need-returns
-returns c = c .of-number .ensures ∙ ap numberC (rw (c .before .before .«record» .ensures) at (c .before .heap-size .ensures))
+returns c =
+    let (at-record, heap-size) : tie.After-record × tie.After-heap-size = search in
+    c .of-number .ensures ∙ ap numberC (rw (at-record .«record» .ensures) at (heap-size .heap-size .ensures))
 
 pub clvm-heap-size-spec : {M : Type 1} → statement M
 clvm-heap-size-spec =

@@ -6,7 +6,9 @@ use Rattle.clvm_allocator.proofs.record.clvm_new_limited.Statement.{sta
 use Rattle.clvm_allocator.proofs.record.clvm_new_limited.Tie as tie
 
 returns : tie.Need-returns
-returns c = crossed-by doneC _ _ (c .of-verdict .ensures) (c .before .of-record .ensures) (c .before .before .new-limited .ensures)
+returns c =
+    let (new-limited, of-record) : tie.After-new-limited × tie.After-of-record = search in
+    crossed-by doneC _ _ (c .of-verdict .ensures) (of-record .of-record .ensures) (new-limited .new-limited .ensures)
 
 pub clvm-new-limited-spec : {M : Type 1} → statement M
 clvm-new-limited-spec =

@@ -6,7 +6,9 @@ use Rattle.clvm_allocator.proofs.record.clvm_pair_count.Statement.{stat
 use Rattle.clvm_allocator.proofs.record.clvm_pair_count.Tie as tie
 
 returns : tie.Need-returns
-returns c = c .of-number .ensures ∙ ap numberC (rw (c .before .before .«record» .ensures) at (c .before .pair-count .ensures))
+returns c =
+    let (at-record, pair-count) : tie.After-record × tie.After-pair-count = search in
+    c .of-number .ensures ∙ ap numberC (rw (at-record .«record» .ensures) at (pair-count .pair-count .ensures))
 
 pub clvm-pair-count-spec : {M : Type 1} → statement M
 clvm-pair-count-spec =

@@ -10,13 +10,16 @@ use Rattle.clvm_allocator.proofs.record.clvm_transparent_checkpoint.Tie
 
 returns : tie.Need-returns
 returns c =
-    let told = rw (c .before .before .before .before .before .before .«record» .ensures) at (c .before .before .before .before .before .transparent-checkpoint .ensures) in
-    ap₂ (λ r row. given r row noLists) (c .done .ensures) (c .before .of-counts .ensures) ∙ ap (takenC countsRow (c .before .before .before .before .before .before .before .args .k .now)) (sym (ap markedPaper (c .before .before .before .found .given .1)) ∙ told)
+    let (start, at-record, transparent-checkpoint, found, of-counts) :
+    tie.Start × tie.After-record × tie.After-transparent-checkpoint × tie.After-found × tie.After-of-counts = search in
+    let told = rw (at-record .«record» .ensures) at (transparent-checkpoint .transparent-checkpoint .ensures) in
+    ap₂ (λ r row. given r row noLists) (c .done .ensures) (of-counts .of-counts .ensures) ∙ ap (takenC countsRow (start .args .k .now)) (sym (ap markedPaper (found .found .given .1)) ∙ told)
 
 returns-2 : tie.Need-returns-2
 returns-2 c =
-    let told = rw (c .before .before .before .before .before .«record» .ensures) at (c .before .before .before .before .transparent-checkpoint .ensures) in
-    ap (λ r. given r (c .before .before .before .before .before .before .args .k .now) noLists) (c .not-done .ensures) ∙ ap (takenC countsRow (c .before .before .before .before .before .before .args .k .now)) (sym (ap markedPaper (c .before .before .found2 .given .1)) ∙ told)
+    let (start, at-record, transparent-checkpoint, found2) : tie.Start × tie.After-record × tie.After-transparent-checkpoint × tie.After-found2 = search in
+    let told = rw (at-record .«record» .ensures) at (transparent-checkpoint .transparent-checkpoint .ensures) in
+    ap (λ r. given r (start .args .k .now) noLists) (c .not-done .ensures) ∙ ap (takenC countsRow (start .args .k .now)) (sym (ap markedPaper (found2 .found2 .given .1)) ∙ told)
 
 pub clvm-transparent-checkpoint-spec : {M : Type 1} → statement M
 clvm-transparent-checkpoint-spec =

@@ -6,10 +6,14 @@ use Rattle.clvm_allocator.proofs.record.clvm_well_formed.Statement.{sta
 use Rattle.clvm_allocator.proofs.record.clvm_well_formed.Tie as tie
 
 returns : tie.Need-returns
-returns c = ap bit (sym (c .if1 .taken) ∙ rw (c .before .before .«record» .ensures) at (c .before .well-formed .ensures))
+returns c =
+    let (at-record, well-formed) : tie.After-record × tie.After-well-formed = search in
+    ap bit (sym (c .if1 .taken) ∙ rw (at-record .«record» .ensures) at (well-formed .well-formed .ensures))
 
 returns-2 : tie.Need-returns-2
-returns-2 c = ap bit (sym (c .if1 .left) ∙ rw (c .before .before .«record» .ensures) at (c .before .well-formed .ensures))
+returns-2 c =
+    let (at-record, well-formed) : tie.After-record × tie.After-well-formed = search in
+    ap bit (sym (c .if1 .left) ∙ rw (at-record .«record» .ensures) at (well-formed .well-formed .ensures))
 
 pub clvm-well-formed-spec : {M : Type 1} → statement M
 clvm-well-formed-spec =

@@ -6,7 +6,10 @@ use Rattle.clvm_allocator.proofs.restoring.clvm_maybe_restore_with_node
 use Rattle.clvm_allocator.proofs.restoring.clvm_maybe_restore_with_node.Tie as tie
 
 returns : tie.Need-returns
-returns c = crossed-by restoredC _ _ (c .of-maybe .ensures) (c .before .of-record .ensures) (rw (c .before .before .before .before .before .before .before .before .before .before .before .before .before .«record» .ensures, c .before .before .before .before .before .before .before .before .before .counts .ensures) at (c .before .before .before .before .before .before .before .before .maybe-restore-with-node .ensures))
+returns c =
+    let (at-record, counts, maybe-restore-with-node, of-record) :
+    tie.After-record × tie.After-counts × tie.After-maybe-restore-with-node × tie.After-of-record = search in
+    crossed-by restoredC _ _ (c .of-maybe .ensures) (of-record .of-record .ensures) (rw (at-record .«record» .ensures, counts .counts .ensures) at (maybe-restore-with-node .maybe-restore-with-node .ensures))
 
 pub clvm-maybe-restore-with-node-spec : {M : Type 1} → statement M
 clvm-maybe-restore-with-node-spec =

@@ -6,7 +6,9 @@ use Rattle.clvm_allocator.proofs.restoring.clvm_restore_checkpoint.Stat
 use Rattle.clvm_allocator.proofs.restoring.clvm_restore_checkpoint.Tie as tie
 
 returns : tie.Need-returns
-returns c = crossed-by doneC _ _ (c .of-verdict .ensures) (c .before .of-record .ensures) (rw (c .before .before .before .before .«record» .ensures, c .before .before .before .plain .ensures) at (c .before .before .restore-checkpoint .ensures))
+returns c =
+    let (at-record, plain, restore-checkpoint, of-record) : tie.After-record × tie.After-plain × tie.After-restore-checkpoint × tie.After-of-record = search in
+    crossed-by doneC _ _ (c .of-verdict .ensures) (of-record .of-record .ensures) (rw (at-record .«record» .ensures, plain .plain .ensures) at (restore-checkpoint .restore-checkpoint .ensures))
 
 pub clvm-restore-checkpoint-spec : {M : Type 1} → statement M
 clvm-restore-checkpoint-spec =

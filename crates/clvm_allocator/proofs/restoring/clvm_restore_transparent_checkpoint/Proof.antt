@@ -6,7 +6,10 @@ use Rattle.clvm_allocator.proofs.restoring.clvm_restore_transparent_che
 use Rattle.clvm_allocator.proofs.restoring.clvm_restore_transparent_checkpoint.Tie as tie
 
 returns : tie.Need-returns
-returns c = crossed-by doneC _ _ (c .of-verdict .ensures) (c .before .of-record .ensures) (rw (c .before .before .before .before .«record» .ensures, c .before .before .before .counts .ensures) at (c .before .before .restore-transparent-checkpoint .ensures))
+returns c =
+    let (at-record, counts, restore-transparent-checkpoint, of-record) :
+    tie.After-record × tie.After-counts × tie.After-restore-transparent-checkpoint × tie.After-of-record = search in
+    crossed-by doneC _ _ (c .of-verdict .ensures) (of-record .of-record .ensures) (rw (at-record .«record» .ensures, counts .counts .ensures) at (restore-transparent-checkpoint .restore-transparent-checkpoint .ensures))
 
 pub clvm-restore-transparent-checkpoint-spec : {M : Type 1} → statement M
 clvm-restore-transparent-checkpoint-spec =

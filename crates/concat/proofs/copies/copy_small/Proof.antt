@@ -21,7 +21,9 @@ len-for-value-requires : tie.Need-len-for-value-requires
 len-for-value-requires c κs = search needs
 
 sub-from : tie.Need-sub-from
-sub-from c = omega (arith, small-length _ (c .before .before .before .before .before .pre .0))
+sub-from c =
+    let start : tie.Start = search in
+    omega (arith, small-length _ (start .pre .0))
 
 sub-copy : tie.Need-sub-copy
 sub-copy c = search needs
@@ -52,11 +54,12 @@ same-length c = search needs
 
 returns : tie.Need-returns
 returns c =
-    let a = c .before .before .before .before .before .before .before .before .before .before .before .args in
-    let from = 4 - c .before .before .before .before .before .before .len-for-value .result in
-    let buf = c .before .before .before .before .before .before .before .before .put-be .last .0 in
-    let s : take (4 - from) (drop from buf) ≡ smallBytes (a .v) = simp (c .before .before .before .before .before .before .len-for-value .ensures, c .before .before .before .before .before .before .before .before .put-be .ensures) (last-part (a .v) _ (c .before .before .before .before .before .before .before .before .before .before .before .pre .0)) in
-    (tail-small (a .bytes .now) (take (4 - from) (drop from buf)) (c .before .before .copy .last .1 .0) (a .v) (a .at) s (c .before .before .before .before .before .before .before .before .before .before .before .pre .1) (c .before .before .copy .ensures .1), simp (c .before .before .before .before .before .before .len-for-value .ensures))
+    let (start, put-be, len-for-value, copy) : tie.Start × tie.After-put-be × tie.After-len-for-value × tie.After-copy = search in
+    let a = start .args in
+    let from = 4 - len-for-value .len-for-value .result in
+    let buf = put-be .put-be .last .0 in
+    let s : take (4 - from) (drop from buf) ≡ smallBytes (a .v) = simp (len-for-value .len-for-value .ensures, put-be .put-be .ensures) (last-part (a .v) _ (start .pre .0)) in
+    (tail-small (a .bytes .now) (take (4 - from) (drop from buf)) (copy .copy .last .1 .0) (a .v) (a .at) s (start .pre .1) (copy .copy .ensures .1), simp (len-for-value .len-for-value .ensures))
 
 pub copy-small-spec : {M : Type 1} → statement M
 copy-small-spec =

@@ -14,14 +14,16 @@ use Rattle.concat.proofs.copies.copy_term.Statement.{statement}
 use Rattle.concat.proofs.copies.copy_term.Tie as tie
 
 -- a range that is to be copied lies before the place, and there is room
-in-range : (c : tie.After-known-told) → let a = c .before .before .before .before .before .before .before .args in let g = c .before .found .given .0 in
+in-range : (c : tie.After-found) →
+    let start : tie.Start = search in
+    let a = start .args in let g = c .found .given .0 in
     (g .0 ≤ g .1 .0) × (g .1 .0 ≤ a .at) × (a .at + (g .1 .0 - g .0) ≤ length (a .bytes .now))
 in-range c =
-    let s = c .before .before .before .before .before .before .before in
+    let (s, atom-of) : tie.Start × tie.After-atom-of = search in
     let a = s .args in
-    let g = c .before .found .given in
+    let g = c .found .given in
     range-room (a .a) (atomSlots (a .starts .now) (a .ends .now)) (a .n) (a .bytes .now) (a .at) (g .0 .0) (g .0 .1 .0)
-    (sym (c .before .before .before .atom-of .ensures) ∙ ap atomPaper (g .1)) (s .pre .0 .2) (s .pre .1)
+    (sym (atom-of .atom-of .ensures) ∙ ap atomPaper (g .1)) (s .pre .0 .2) (s .pre .1)
 
 atom-of-requires : tie.Need-atom-of-requires
 atom-of-requires c κs = search needs
@@ -30,24 +32,24 @@ enum-known-found : tie.Need-enum-known-found
 enum-known-found c = search needs
 
 copy-within-requires : tie.Need-copy-within-requires
-copy-within-requires c κs = in-range (c .before)
+copy-within-requires c κs = in-range (search)
 
 sub-result : tie.Need-sub-result
-sub-result c = in-range (c .before .before .before .before) .0
+sub-result c = in-range (search) .0
 
 add-result : tie.Need-add-result
-add-result c = omega (arith, in-range (c .before .before .before .before))
+add-result c = omega (arith, in-range (search))
 
 enum-known-found-2 : tie.Need-enum-known-found-2
 enum-known-found-2 c = search needs
 
 copy-small-requires : tie.Need-copy-small-requires
 copy-small-requires c κs =
-    let s = c .before .before .before .before .before .before .before .before in
+    let (s, atom-of, found2) : tie.Start × tie.After-atom-of × tie.After-found2 = search in
     let a = s .args in
-    let g = c .before .before .found2 .given in
+    let g = found2 .found2 .given in
     value-room (a .a) (atomSlots (a .starts .now) (a .ends .now)) (a .n) (a .bytes .now) (a .at) (g .0 .0)
-    (sym (c .before .before .before .before .atom-of .ensures) ∙ ap atomPaper (g .1)) (s .pre .1)
+    (sym (atom-of .atom-of .ensures) ∙ ap atomPaper (g .1)) (s .pre .1)
 
 enum-told : tie.Need-enum-told
 enum-told c = search needs
@@ -57,24 +59,27 @@ same-length c = search needs
 
 returns : tie.Need-returns
 returns c =
-    let b = c .before .before .before .before .before .before .before .before .before .before .before .args .bytes .now in
-    let g = c .before .before .before .before .before .found .given in
-    let l = length-slice (g .0 .0) (g .0 .1 .0) b (omega (arith, in-range (c .before .before .before .before))) in
-    (simp (c .before .before .copy-within .ensures, ← (c .before .before .before .before .before .before .before .atom-of .ensures), g .1), simp (← (c .before .before .before .before .before .before .before .atom-of .ensures), g .1, l))
+    let (start, atom-of, found, copy-within) : tie.Start × tie.After-atom-of × tie.After-found × tie.After-copy-within = search in
+    let b = start .args .bytes .now in
+    let g = found .found .given in
+    let l = length-slice (g .0 .0) (g .0 .1 .0) b (omega (arith, in-range found)) in
+    (simp (copy-within .copy-within .ensures, ← (atom-of .atom-of .ensures), g .1), simp (← (atom-of .atom-of .ensures), g .1, l))
 
 same-length-2 : tie.Need-same-length-2
 same-length-2 c = search needs
 
 returns-2 : tie.Need-returns-2
 returns-2 c =
-    let o = c .before .before .before .before .before .before .before .atom-of .ensures in
-    let g = c .before .before .before .before .before .found2 .given .1 in
-    (simp (c .before .before .copy-small .ensures .0, ← o, g), simp (c .before .before .copy-small .ensures .1, ← o, g, length-be))
+    let (atom-of, found2, copy-small) : tie.After-atom-of × tie.After-found2 × tie.After-copy-small = search in
+    let o = atom-of .atom-of .ensures in
+    let g = found2 .found2 .given .1 in
+    (simp (copy-small .copy-small .ensures .0, ← o, g), simp (copy-small .copy-small .ensures .1, ← o, g, length-be))
 
 returns-3 : tie.Need-returns-3
 returns-3 c =
-    let a = c .before .before .before .before .before .before .args in
-    let o = c .before .before .atom-of .ensures in
+    let (start, atom-of) : tie.Start × tie.After-atom-of = search in
+    let a = start .args in
+    let o = atom-of .atom-of .ensures in
     let g = c .enum-told .given .1 in
     (sym (simp (← o, g) (over-none (a .bytes .now) (a .at))), simp (← o, g) (omega arith))
 

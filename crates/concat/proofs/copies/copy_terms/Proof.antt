@@ -14,7 +14,9 @@ abbrev μ-loop : tie.MeasureT-loop
 μ-loop a bytes₀ starts ends nodes at₀ i₀ bytes at i = length nodes - i
 
 loop-holds : tie.Need-loop-holds Inv-loop μ-loop
-loop-holds c = copied-none _ (store (c .before .before .before .before .args .bytes .now) (atomSlots (c .before .before .before .before .args .starts .now) (c .before .before .before .before .args .ends .now))) (c .before .before .before .before .args .nodes .now) (c .before .before .before .before .pre .1)
+loop-holds c =
+    let start : tie.Start Inv-loop μ-loop = search in
+    copied-none _ (store (start .args .bytes .now) (atomSlots (start .args .starts .now) (start .args .ends .now))) (start .args .nodes .now) (start .pre .1)
 
 mul-copy-term : tie.Need-mul-copy-term Inv-loop μ-loop
 mul-copy-term c = search needs
@@ -24,9 +26,10 @@ shared-slice-read-copy-term c = search needs
 
 copy-term-requires : tie.Need-copy-term-requires Inv-loop μ-loop
 copy-term-requires c κs =
-    let a = c .before .before .before .before .before .before .before .before .args in
-    let l = c .before .before .before .loop in
-    ((c .before .before .before .before .before .before .before .before .pre .0 .0, c .before .before .before .before .before .before .before .before .pre .0 .1, l .inv .behind), copied-room (a .a) (store (a .bytes .now) (atomSlots (a .starts .now) (a .ends .now))) (a .nodes .now) (l .bytes) (l .at) (l .i) (l .inv) (c .before .before .loop-test .taken))
+    let (start, loop, in-loop) : tie.Start Inv-loop μ-loop × tie.At-loop Inv-loop μ-loop × tie.In-loop Inv-loop μ-loop = search in
+    let a = start .args in
+    let l = loop .loop in
+    ((start .pre .0 .0, start .pre .0 .1, l .inv .behind), copied-room (a .a) (store (a .bytes .now) (atomSlots (a .starts .now) (a .ends .now))) (a .nodes .now) (l .bytes) (l .at) (l .i) (l .inv) (in-loop .loop-test .taken))
 
 add-i : tie.Need-add-i Inv-loop μ-loop
 add-i c = search needs
@@ -36,17 +39,22 @@ loop-less c = search needs
 
 loop-again : tie.Need-loop-again Inv-loop μ-loop
 loop-again c =
-    let a = c .before .before .before .before .before .before .before .before .before .before .before .args in
-    let l = c .before .before .before .before .before .before .loop in
-    copied-more (a .a) (store (a .bytes .now) (atomSlots (a .starts .now) (a .ends .now))) (a .nodes .now) (l .bytes) (l .at) (l .i) (l .inv) (c .before .before .before .before .before .loop-test .taken) _ _ (c .before .before .copy-term .ensures .0) (c .before .before .copy-term .ensures .1)
+    let (start, loop, in-loop, copy-term) :
+    tie.Start Inv-loop μ-loop × tie.At-loop Inv-loop μ-loop × tie.In-loop Inv-loop μ-loop × tie.After-copy-term Inv-loop μ-loop = search in
+    let a = start .args in
+    let l = loop .loop in
+    copied-more (a .a) (store (a .bytes .now) (atomSlots (a .starts .now) (a .ends .now))) (a .nodes .now) (l .bytes) (l .at) (l .i) (l .inv) (in-loop .loop-test .taken) _ _ (copy-term .copy-term .ensures .0) (copy-term .copy-term .ensures .1)
 
 same-length : tie.Need-same-length Inv-loop μ-loop
-same-length c = c .before .loop .inv .long
+same-length c =
+    let loop : tie.At-loop Inv-loop μ-loop = search in
+    loop .loop .inv .long
 
 returns : tie.Need-returns Inv-loop μ-loop
 returns c =
-    let a = c .before .before .before .before .before .before .args in
-    let l = c .before .loop in
+    let (start, loop) : tie.Start Inv-loop μ-loop × tie.At-loop Inv-loop μ-loop = search in
+    let a = start .args in
+    let l = loop .loop in
     copied-all (a .a) (store (a .bytes .now) (atomSlots (a .starts .now) (a .ends .now))) (a .nodes .now) (l .bytes) (l .at) (l .i) (l .inv) (c .loop-test .left)
 
 pub copy-terms-spec : {M : Type 1} → statement M

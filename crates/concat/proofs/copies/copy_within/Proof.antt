@@ -41,17 +41,21 @@ loop-less c = omega arith
 
 loop-again : tie.Need-loop-again Inv-loop μ-loop
 loop-again c =
-    let l = c .before .before .loop in
-    let a = c .before .before .before .args in
+    let (at-start, loop) : tie.Start Inv-loop μ-loop × tie.At-loop Inv-loop μ-loop = search in
+    let l = loop .loop in
+    let a = at-start .args in
     (rw (l .inv .0) (within-step (a .bytes .now) (a .start) (a .at) (l .i) (omega arith) (omega arith)), omega arith, simp length-set (omega arith))
 
 same-length : tie.Need-same-length Inv-loop μ-loop
-same-length c = c .before .loop .inv .2
+same-length c =
+    let loop : tie.At-loop Inv-loop μ-loop = search in
+    loop .loop .inv .2
 
 returns : tie.Need-returns Inv-loop μ-loop
 returns c =
-    let a = c .before .before .args in
-    c .before .loop .inv .0 ∙ rw (le-antisymm (c .before .loop .inv .1) (c .loop-test .left)) (paste-over (a .bytes .now) (a .start) (a .end) (a .at) (omega arith) (omega arith))
+    let (at-start, loop) : tie.Start Inv-loop μ-loop × tie.At-loop Inv-loop μ-loop = search in
+    let a = at-start .args in
+    loop .loop .inv .0 ∙ rw (le-antisymm (loop .loop .inv .1) (c .loop-test .left)) (paste-over (a .bytes .now) (a .start) (a .end) (a .at) (omega arith) (omega arith))
 
 pub copy-within-spec : {M : Type 1} → statement M
 copy-within-spec =

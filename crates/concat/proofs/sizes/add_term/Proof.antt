@@ -17,14 +17,20 @@ enum-known-found : tie.Need-enum-known-found
 enum-known-found c = search needs
 
 sub-to : tie.Need-sub-to
-sub-to c = omega (arith, atom-in _ _ _ _ (sym (c .before .before .before .atom-of .ensures) ∙ ap atomPaper (c .before .found .given .1)))
+sub-to c =
+    let (atom-of, found) : tie.After-atom-of × tie.After-found = search in
+    omega (arith, atom-in _ _ _ _ (sym (atom-of .atom-of .ensures) ∙ ap atomPaper (found .found .given .1)))
 
 add-to : tie.Need-add-to
-add-to c = omega (arith, atom-in _ _ _ _ (sym (c .before .before .before .atom-of .ensures) ∙ ap atomPaper (c .before .found .given .1)))
+add-to c =
+    let (atom-of, found) : tie.After-atom-of × tie.After-found = search in
+    omega (arith, atom-in _ _ _ _ (sym (atom-of .atom-of .ensures) ∙ ap atomPaper (found .found .given .1)))
 
 returns : tie.Need-returns
 unfolding need
-returns c = simp (← (c .before .before .before .before .atom-of .ensures), c .before .before .found .given .1, le-leb _ _ (c .if1 .taken))
+returns c =
+    let (atom-of, found) : tie.After-atom-of × tie.After-found = search in
+    simp (← (atom-of .atom-of .ensures), found .found .given .1, le-leb _ _ (c .if1 .taken))
 
 enum-known-found-2 : tie.Need-enum-known-found-2
 enum-known-found-2 c = search needs
@@ -33,7 +39,9 @@ len-for-value-requires : tie.Need-len-for-value-requires
 len-for-value-requires c κs = search needs
 
 add-capped : tie.Need-add-capped
-add-capped c = omega (arith, c .len-for-value .ensures, small-length _ (atom-in _ _ _ _ (sym (c .before .before .before .before .atom-of .ensures) ∙ ap atomPaper (c .before .before .found2 .given .1))))
+add-capped c =
+    let (atom-of, found2) : tie.After-atom-of × tie.After-found2 = search in
+    omega (arith, c .len-for-value .ensures, small-length _ (atom-in _ _ _ _ (sym (atom-of .atom-of .ensures) ∙ ap atomPaper (found2 .found2 .given .1))))
 
 capped-requires : tie.Need-capped-requires
 capped-requires c κs = search needs
@@ -43,13 +51,19 @@ enum-known-found-3 c = search needs
 
 returns-2 : tie.Need-returns-2
 unfolding need
-returns-2 c = simp (← (c .before .before .before .before .atom-of .ensures), c .before .before .found .given .1, lt-leb _ _ (c .if1 .left))
+returns-2 c =
+    let (atom-of, found) : tie.After-atom-of × tie.After-found = search in
+    simp (← (atom-of .atom-of .ensures), found .found .given .1, lt-leb _ _ (c .if1 .left))
 
 returns-3 : tie.Need-returns-3
-returns-3 c = simp (c .capped .ensures, c .before .len-for-value .ensures, ← (c .before .before .before .before .before .atom-of .ensures), c .before .before .before .found2 .given .1)
+returns-3 c =
+    let (atom-of, found2, len-for-value) : tie.After-atom-of × tie.After-found2 × tie.After-len-for-value = search in
+    simp (c .capped .ensures, len-for-value .len-for-value .ensures, ← (atom-of .atom-of .ensures), found2 .found2 .given .1)
 
 returns-4 : tie.Need-returns-4
-returns-4 c = simp (← (c .before .before .before .atom-of .ensures), c .before .found3 .given .1)
+returns-4 c =
+    let (atom-of, found3) : tie.After-atom-of × tie.After-found3 = search in
+    simp (← (atom-of .atom-of .ensures), found3 .found3 .given .1)
 
 pub add-term-spec : {M : Type 1} → statement M
 add-term-spec =

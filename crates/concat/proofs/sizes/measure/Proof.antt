@@ -46,24 +46,29 @@ loop-less c = omega arith
 
 loop-again : tie.Need-loop-again Inv-loop μ-loop
 loop-again c =
-    let l = c .before .before .before .before .before .before .loop in
-    let a = c .before .before .before .before .before .before .before .before .before .before .args in
+    let (start, loop, add-term, added2) :
+    tie.Start Inv-loop μ-loop × tie.At-loop Inv-loop μ-loop × tie.After-add-term Inv-loop μ-loop × tie.After-added2 Inv-loop μ-loop = search in
+    let l = loop .loop in
+    let a = start .args in
     let m =
     scan-more (a .a) (atomSlots (a .starts .now) (a .ends .now)) (a .size) (a .nodes .now) (l .i) (l .counter) _ (omega arith)
-    (sym (ap numberPaper (c .before .added2 .given .1)) ∙ c .before .before .before .add-term .ensures) in
+    (sym (ap numberPaper (added2 .added2 .given .1)) ∙ add-term .add-term .ensures) in
     (l .inv .0 ∙ m .0, omega arith, m .1)
 
 returns : tie.Need-returns Inv-loop μ-loop
 returns c =
-    let l = c .before .before .loop in
-    let a = c .before .before .before .before .before .before .args in
-    c .settled .ensures ∙ sym (l .inv .0 ∙ scan-end (a .a) (atomSlots (a .starts .now) (a .ends .now)) (a .size) (a .nodes .now) (l .i) (l .counter) (c .before .if1 .taken))
+    let (start, loop, then1) : tie.Start Inv-loop μ-loop × tie.At-loop Inv-loop μ-loop × tie.Then1 Inv-loop μ-loop = search in
+    let l = loop .loop in
+    let a = start .args in
+    c .settled .ensures ∙ sym (l .inv .0 ∙ scan-end (a .a) (atomSlots (a .starts .now) (a .ends .now)) (a .size) (a .nodes .now) (l .i) (l .counter) (then1 .if1 .taken))
 
 returns-2 : tie.Need-returns-2 Inv-loop μ-loop
 returns-2 c =
-    let l = c .before .before .before .before .before .before .loop in
-    let a = c .before .before .before .before .before .before .before .before .before .before .args in
-    let e = sym (ap numberPaper (c .before .added .given .1)) ∙ c .before .before .before .add-term .ensures in
+    let (start, loop, add-term, added) :
+    tie.Start Inv-loop μ-loop × tie.At-loop Inv-loop μ-loop × tie.After-add-term Inv-loop μ-loop × tie.After-added Inv-loop μ-loop = search in
+    let l = loop .loop in
+    let a = start .args in
+    let e = sym (ap numberPaper (added .added .given .1)) ∙ add-term .add-term .ensures in
     sym (l .inv .0 ∙ scan-cons (a .a) (atomSlots (a .starts .now) (a .ends .now)) (a .size) (a .nodes .now) (l .i) (l .counter) _ (omega arith) e)
 
 pub measure-spec : {M : Type 1} → statement M

@@ -14,15 +14,21 @@ store-sound-requires : tie.Need-store-sound-requires
 store-sound-requires c κs = search needs
 
 limit-tests-requires : tie.Need-limit-tests-requires
-limit-tests-requires c κs = store-lent _ _ _ _ (sym (c .before .store-sound .ensures) ∙ c .if1 .taken) .atoms .limits
+limit-tests-requires c κs =
+    let store-sound : tie.After-store-sound = search in
+    store-lent _ _ _ _ (sym (store-sound .store-sound .ensures) ∙ c .if1 .taken) .atoms .limits
 
 returns : tie.Need-returns
 unfolding need
-returns c = simp (c .limit-tests .ensures, ← (c .before .before .store-sound .ensures), c .before .if1 .taken)
+returns c =
+    let (store-sound, then1) : tie.After-store-sound × tie.Then1 = search in
+    simp (c .limit-tests .ensures, ← (store-sound .store-sound .ensures), then1 .if1 .taken)
 
 returns-2 : tie.Need-returns-2
 unfolding need
-returns-2 c = simp (← (c .before .store-sound .ensures), c .if1 .left)
+returns-2 c =
+    let store-sound : tie.After-store-sound = search in
+    simp (← (store-sound .store-sound .ensures), c .if1 .left)
 
 pub atom-tests-spec : {M : Type 1} → statement M
 atom-tests-spec = tie.close (tie.spec store-sound-requires limit-tests-requires returns returns-2)

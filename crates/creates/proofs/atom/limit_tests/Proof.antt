@@ -20,7 +20,8 @@ total-requires c κs = search needs
 returns : tie.Need-returns
 unfolding need
 returns c =
-    let a = c .before .before .before .before .args in
+    let start : tie.Start = search in
+    let a = start .args in
     let h : a .a .limit < heap (a .a) + a .len = omega arith in
     search tests
 
@@ -30,7 +31,8 @@ add-if2 c = search needs
 returns-2 : tie.Need-returns-2
 unfolding need
 returns-2 c =
-    let a = c .before .before .before .before .before .before .args in
+    let start : tie.Start = search in
+    let a = start .args in
     let h : heap (a .a) + a .len ≤ a .a .limit = omega arith in
     let k : 62500000 ≤ atoms (a .a) = omega arith in
     search tests
@@ -38,7 +40,8 @@ returns-2 c =
 returns-3 : tie.Need-returns-3
 unfolding need
 returns-3 c =
-    let a = c .before .before .before .before .before .before .args in
+    let start : tie.Start = search in
+    let a = start .args in
     let h : heap (a .a) + a .len ≤ a .a .limit = omega arith in
     let k : atoms (a .a) < 62500000 = omega arith in
     search tests

@@ -26,11 +26,15 @@ enum-told : tie.Need-enum-told
 enum-told c = search needs
 
 small-or-requires : tie.Need-small-or-requires
-small-or-requires c κs = omega (arith, atom-passed _ _ _ _ _ (sym (c .before .before .before .before .before .atom-tests .ensures) ∙ ap verdictPaper (c .before .before .before .enum-told .given .1)))
+small-or-requires c κs =
+    let (atom-tests, told) : tie.After-atom-tests × tie.After-enum-told = search in
+    omega (arith, atom-passed _ _ _ _ _ (sym (atom-tests .atom-tests .ensures) ∙ ap verdictPaper (told .enum-told .given .1)))
 
 returns : tie.Need-returns
 unfolding atomTests
-returns c = simp (c .refused .ensures .0, c .refused .ensures .1, ← (c .before .before .before .before .atom-tests .ensures), c .before .before .tests .given .1)
+returns c =
+    let (atom-tests, tests) : tie.After-atom-tests × tie.After-tests = search in
+    simp (c .refused .ensures .0, c .refused .ensures .1, ← (atom-tests .atom-tests .ensures), tests .tests .given .1)
 
 same-length : tie.Need-same-length
 same-length c = search needs
@@ -43,7 +47,9 @@ same-length-3 c = search needs
 
 returns-2 : tie.Need-returns-2
 unfolding atomTests
-returns-2 c = simp (c .before .before .before .before .before .before .small-or .ensures, ← (c .before .before .before .before .before .before .before .before .before .before .before .before .atom-tests .ensures), c .before .before .before .before .before .before .before .before .before .before .enum-told .given .1)
+returns-2 c =
+    let (atom-tests, told, small-or) : tie.After-atom-tests × tie.After-enum-told × tie.After-small-or = search in
+    simp (small-or .small-or .ensures, ← (atom-tests .atom-tests .ensures), told .enum-told .given .1)
 
 pub new-atom-spec : {M : Type 1} → statement M
 new-atom-spec =

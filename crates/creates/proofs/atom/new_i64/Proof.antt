@@ -20,7 +20,9 @@ array-share-prefix-buf : tie.Need-array-share-prefix-buf
 array-share-prefix-buf c = search needs
 
 slice-aggregate-new-atom : tie.Need-slice-aggregate-new-atom
-slice-aggregate-new-atom c = written-length _ _ _ _ (c .before .before .before .before .before .write-i64 .ensures)
+slice-aggregate-new-atom c =
+    let write-i64 : tie.After-write-i64 = search in
+    written-length _ _ _ _ (write-i64 .write-i64 .ensures)
 
 new-atom-requires : tie.Need-new-atom-requires
 new-atom-requires c κs = search needs
@@ -35,7 +37,9 @@ same-length-3 : tie.Need-same-length-3
 same-length-3 c = search needs
 
 returns : tie.Need-returns
-returns c = simp (toZ-ofZ w64 (c .before .before .before .before .before .before .before .before .before .before .before .before .before .before .before .before .before .args .x) (c .before .before .before .before .before .before .before .before .before .before .before .before .before .before .before .before .before .fits .x), c .before .before .before .before .before .before .new-atom .ensures, written-part _ _ _ _ (c .before .before .before .before .before .before .before .before .before .before .before .before .write-i64 .ensures))
+returns c =
+    let (start, write-i64, new-atom) : tie.Start × tie.After-write-i64 × tie.After-new-atom = search in
+    simp (toZ-ofZ w64 (start .args .x) (start .fits .x), new-atom .new-atom .ensures, written-part _ _ _ _ (write-i64 .write-i64 .ensures))
 
 pub new-i64-spec : {M : Type 1} → statement M
 new-i64-spec =

@@ -30,16 +30,24 @@ enum-told : tie.Need-enum-told
 enum-told c = search needs
 
 new-requires : tie.Need-new-requires
-new-requires c κs = omega (arith, small-passed _ _ (sym (c .before .before .small-tests .ensures) ∙ ap verdictPaper (c .enum-told .given .1)))
+new-requires c κs =
+    let small-tests : tie.After-small-tests = search in
+    omega (arith, small-passed _ _ (sym (small-tests .small-tests .ensures) ∙ ap verdictPaper (c .enum-told .given .1)))
 
 ghost-atom-requires : tie.Need-ghost-atom-requires
-ghost-atom-requires c κs = omega (arith, small-passed _ _ (sym (c .before .before .before .small-tests .ensures) ∙ ap verdictPaper (c .before .enum-told .given .1)))
+ghost-atom-requires c κs =
+    let (small-tests, told) : tie.After-small-tests × tie.After-enum-told = search in
+    omega (arith, small-passed _ _ (sym (small-tests .small-tests .ensures) ∙ ap verdictPaper (told .enum-told .given .1)))
 
 returns : tie.Need-returns
-returns c = simp (c .refused .ensures .0, c .refused .ensures .1, ← (c .before .before .before .before .small-tests .ensures), c .before .before .tests .given .1)
+returns c =
+    let (small-tests, tests) : tie.After-small-tests × tie.After-tests = search in
+    simp (c .refused .ensures .0, c .refused .ensures .1, ← (small-tests .small-tests .ensures), tests .tests .given .1)
 
 returns-2 : tie.Need-returns-2
-returns-2 c = simp (c .ghost-atom .ensures, c .before .new .ensures, c .before .before .before .before .before .len-for-value .ensures, ← (c .before .before .before .before .small-tests .ensures), c .before .before .enum-told .given .1)
+returns-2 c =
+    let (len-for-value, small-tests, told, new) : tie.After-len-for-value × tie.After-small-tests × tie.After-enum-told × tie.After-new = search in
+    simp (c .ghost-atom .ensures, new .new .ensures, len-for-value .len-for-value .ensures, ← (small-tests .small-tests .ensures), told .enum-told .given .1)
 
 pub new-small-number-spec : {M : Type 1} → statement M
 new-small-number-spec =

@@ -18,7 +18,9 @@ array-share-prefix-buf : tie.Need-array-share-prefix-buf
 array-share-prefix-buf c = search needs
 
 slice-aggregate-new-atom : tie.Need-slice-aggregate-new-atom
-slice-aggregate-new-atom c = written-length _ _ _ _ (c .before .before .before .before .before .write-u64 .ensures)
+slice-aggregate-new-atom c =
+    let write-u64 : tie.After-write-u64 = search in
+    written-length _ _ _ _ (write-u64 .write-u64 .ensures)
 
 new-atom-requires : tie.Need-new-atom-requires
 new-atom-requires c κs = search needs
@@ -33,7 +35,9 @@ same-length-3 : tie.Need-same-length-3
 same-length-3 c = search needs
 
 returns : tie.Need-returns
-returns c = simp (c .before .before .before .before .before .before .new-atom .ensures, written-part _ _ _ _ (c .before .before .before .before .before .before .before .before .before .before .before .before .write-u64 .ensures))
+returns c =
+    let (write-u64, new-atom) : tie.After-write-u64 × tie.After-new-atom = search in
+    simp (new-atom .new-atom .ensures, written-part _ _ _ _ (write-u64 .write-u64 .ensures))
 
 pub new-u64-spec : {M : Type 1} → statement M
 new-u64-spec =

@@ -20,7 +20,10 @@ enum-known-fit : tie.Need-enum-known-fit
 enum-known-fit c = search needs
 
 new-requires : tie.Need-new-requires
-new-requires c κs = omega (arith, fits-value (c .before .before .before .before .before .before .before .before .args .v .now) _ (λ i. omega (arith, c .before .before .before .before .shared-slice-known .given i)) (sym (c .before .before .before .fits-in-small-atom .ensures) ∙ ap fitsPaper (c .before .fit .given .1)))
+new-requires c κs =
+    let (start, shared-slice-known, fits-in-small-atom, fit) :
+    tie.Start × tie.After-shared-slice-known × tie.After-fits-in-small-atom × tie.After-fit = search in
+    omega (arith, fits-value (start .args .v .now) _ (λ i. omega (arith, shared-slice-known .shared-slice-known .given i)) (sym (fits-in-small-atom .fits-in-small-atom .ensures) ∙ ap fitsPaper (fit .fit .given .1)))
 
 ghost-atom-requires : tie.Need-ghost-atom-requires
 ghost-atom-requires c κs = search needs
@@ -32,7 +35,9 @@ store-atom-requires : tie.Need-store-atom-requires
 store-atom-requires c κs = search needs
 
 returns : tie.Need-returns
-returns c = simp (c .ghost-atom .ensures, c .before .new .ensures, ← (c .before .before .before .before .before .fits-in-small-atom .ensures), c .before .before .before .fit .given .1)
+returns c =
+    let (fits-in-small-atom, fit, new) : tie.After-fits-in-small-atom × tie.After-fit × tie.After-new = search in
+    simp (c .ghost-atom .ensures, new .new .ensures, ← (fits-in-small-atom .fits-in-small-atom .ensures), fit .fit .given .1)
 
 same-length : tie.Need-same-length
 same-length c = search needs
@@ -44,7 +49,9 @@ same-length-3 : tie.Need-same-length-3
 same-length-3 c = search needs
 
 returns-2 : tie.Need-returns-2
-returns-2 c = simp (c .before .before .before .before .before .before .store-atom .ensures, ← (c .before .before .before .before .before .before .before .before .before .before .before .before .fits-in-small-atom .ensures), c .before .before .before .before .before .before .before .before .before .before .enum-told .given .1)
+returns-2 c =
+    let (fits-in-small-atom, told, store-atom) : tie.After-fits-in-small-atom × tie.After-enum-told × tie.After-store-atom = search in
+    simp (store-atom .store-atom .ensures, ← (fits-in-small-atom .fits-in-small-atom .ensures), told .enum-told .given .1)
 
 pub small-or-spec : {M : Type 1} → statement M
 small-or-spec =

@@ -17,18 +17,26 @@ limits-sound-requires c κs = search needs
 
 returns : tie.Need-returns
 unfolding smallTests need
-returns c = simp (← (c .before .before .limits-sound .ensures), c .before .if1 .taken, lt-leb _ _ (c .if2 .taken))
+returns c =
+    let (limits-sound, then1) : tie.After-limits-sound × tie.Then1 = search in
+    simp (← (limits-sound .limits-sound .ensures), then1 .if1 .taken, lt-leb _ _ (c .if2 .taken))
 
 limit-tests-requires : tie.Need-limit-tests-requires
-limit-tests-requires c κs = limits _ (sym (c .before .before .limits-sound .ensures) ∙ c .before .if1 .taken)
+limit-tests-requires c κs =
+    let (limits-sound, then1) : tie.After-limits-sound × tie.Then1 = search in
+    limits _ (sym (limits-sound .limits-sound .ensures) ∙ then1 .if1 .taken)
 
 returns-2 : tie.Need-returns-2
 unfolding smallTests need
-returns-2 c = simp (c .limit-tests .ensures, ← (c .before .before .before .limits-sound .ensures), c .before .before .if1 .taken, le-leb _ _ (c .before .if2 .left), c .before .before .before .before .pre)
+returns-2 c =
+    let (start, limits-sound, then1, else2) : tie.Start × tie.After-limits-sound × tie.Then1 × tie.Else2 = search in
+    simp (c .limit-tests .ensures, ← (limits-sound .limits-sound .ensures), then1 .if1 .taken, le-leb _ _ (else2 .if2 .left), start .pre)
 
 returns-3 : tie.Need-returns-3
 unfolding smallTests need
-returns-3 c = simp (← (c .before .limits-sound .ensures), c .if1 .left)
+returns-3 c =
+    let limits-sound : tie.After-limits-sound = search in
+    simp (← (limits-sound .limits-sound .ensures), c .if1 .left)
 
 pub small-tests-spec : {M : Type 1} → statement M
 small-tests-spec =

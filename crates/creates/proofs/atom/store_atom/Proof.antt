@@ -19,8 +19,12 @@ use Rattle.node.proofs.new.Reads as new-reads
 use Rattle.state.proofs.record.used_atom.Reads as used-atom-reads
 
 -- what the test of the room told
-room : (c : tie.Then1) → let s = c .before .before .before .before .before .before .args in StoreRoom (s .a) (length (s .v .now)) (length (s .bytes .now)) (length (s .starts .now)) (length (s .ends .now))
-room c = store-room _ _ _ _ _ (sym (c .before .store-room .ensures) ∙ c .if1 .taken)
+room : (c : tie.Then1) →
+    let start : tie.Start = search in
+    let s = start .args in StoreRoom (s .a) (length (s .v .now)) (length (s .bytes .now)) (length (s .starts .now)) (length (s .ends .now))
+room c =
+    let at-store-room : tie.After-store-room = search in
+    store-room _ _ _ _ _ (sym (at-store-room .store-room .ensures) ∙ c .if1 .taken)
 
 store-room-requires : tie.Need-store-room-requires
 store-room-requires c κs = search needs
@@ -35,28 +39,28 @@ part-copy-end : tie.Need-part-copy-end
 part-copy-end c = search needs
 
 copy-requires : tie.Need-copy-requires
-copy-requires c κs = simp (length-take, length-drop) (omega (arith, room (c .before)))
+copy-requires c κs = simp (length-take, length-drop) (omega (arith, room (search)))
 
 cast-starts : tie.Need-cast-starts
-cast-starts c = omega (arith, room (c .before .before .before .before))
+cast-starts c = omega (arith, room (search))
 
 mul-starts : tie.Need-mul-starts
-mul-starts c = omega (arith, room (c .before .before .before .before))
+mul-starts c = omega (arith, room (search))
 
 slice-write-starts : tie.Need-slice-write-starts
-slice-write-starts c = omega (arith, room (c .before .before .before .before))
+slice-write-starts c = omega (arith, room (search))
 
 add-ends : tie.Need-add-ends
-add-ends c = omega (arith, room (c .before .before .before .before))
+add-ends c = omega (arith, room (search))
 
 cast-ends : tie.Need-cast-ends
-cast-ends c = omega (arith, room (c .before .before .before .before))
+cast-ends c = omega (arith, room (search))
 
 mul-ends : tie.Need-mul-ends
-mul-ends c = omega (arith, room (c .before .before .before .before))
+mul-ends c = omega (arith, room (search))
 
 slice-write-ends : tie.Need-slice-write-ends
-slice-write-ends c = omega (arith, room (c .before .before .before .before))
+slice-write-ends c = omega (arith, room (search))
 
 cast-new : tie.Need-cast-new
 cast-new c = search needs
@@ -65,7 +69,7 @@ new-requires : tie.Need-new-requires
 new-requires c κs = search needs
 
 used-atom-requires : tie.Need-used-atom-requires
-used-atom-requires c κs = omega (arith, room (c .before .before .before .before .before))
+used-atom-requires c κs = omega (arith, room (search))
 
 same-length : tie.Need-same-length
 same-length c = search needs
@@ -79,16 +83,19 @@ same-length-3 c = search needs
 returns : tie.Need-returns
 unfolding storeAtom need
 returns c =
-    let s = c .before .before .before .before .before .before .before .before .before .before .before .before .args in
-    let h : s .a .used .bytes + length (s .v .now) ≤ length (s .bytes .now) = room (c .before .before .before .before .before .before) .held in
-    simp (c .used-atom .ensures, c .before .new .ensures, ← (c .before .before .before .before .before .before .before .store-room .ensures), c .before .before .before .before .before .before .if1 .taken, tail-over (s .bytes .now) (s .v .now) (c .before .before .before .before .copy .last .1 .0) (s .a .used .bytes) h (c .before .before .before .before .copy .ensures .1))
+    let (start, at-store-room, then1, copy, new) : tie.Start × tie.After-store-room × tie.Then1 × tie.After-copy × tie.After-new = search in
+    let s = start .args in
+    let h : s .a .used .bytes + length (s .v .now) ≤ length (s .bytes .now) = room then1 .held in
+    simp (c .used-atom .ensures, new .new .ensures, ← (at-store-room .store-room .ensures), then1 .if1 .taken, tail-over (s .bytes .now) (s .v .now) (copy .copy .last .1 .0) (s .a .used .bytes) h (copy .copy .ensures .1))
 
 refused-requires : tie.Need-refused-requires
 refused-requires c κs = search needs
 
 returns-2 : tie.Need-returns-2
 unfolding storeAtom need
-returns-2 c = simp (c .refused .ensures .0, c .refused .ensures .1, ← (c .before .before .store-room .ensures), c .before .if1 .left)
+returns-2 c =
+    let (at-store-room, else1) : tie.After-store-room × tie.Else1 = search in
+    simp (c .refused .ensures .0, c .refused .ensures .1, ← (at-store-room .store-room .ensures), else1 .if1 .left)
 
 pub store-atom-spec : {M : Type 1} → statement M
 store-atom-spec =

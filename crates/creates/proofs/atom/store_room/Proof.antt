@@ -15,13 +15,15 @@ total-requires c κs = search needs
 
 returns : tie.Need-returns
 returns c =
-    let a = c .before .before .args in
+    let start : tie.Start = search in
+    let a = start .args in
     let h : 4294967295 < a .a .used .bytes + a .len = omega arith in
     search tests
 
 returns-2 : tie.Need-returns-2
 returns-2 c =
-    let a = c .before .before .before .args in
+    let start : tie.Start = search in
+    let a = start .args in
     let h : a .a .used .bytes + a .len ≤ 4294967295 = omega arith in
     let k : a .bytes < a .a .used .bytes + a .len = omega arith in
     search tests
@@ -31,7 +33,8 @@ slot-room-requires c κs = search needs
 
 returns-3 : tie.Need-returns-3
 returns-3 c =
-    let a = c .before .before .before .before .args in
+    let start : tie.Start = search in
+    let a = start .args in
     let h : a .a .used .bytes + a .len ≤ 4294967295 = omega arith in
     let k : a .a .used .bytes + a .len ≤ a .bytes = omega arith in
     search (tests, c .slot-room .ensures)

@@ -21,7 +21,9 @@ limits-sound-requires : tie.Need-limits-sound-requires
 limits-sound-requires c κs = search needs
 
 add-total : tie.Need-add-total
-add-total c = omega (arith, limits _ (sym (c .before .before .limits-sound .ensures) ∙ c .before .if1 .taken))
+add-total c =
+    let (limits-sound, then1) : tie.After-limits-sound × tie.Then1 = search in
+    omega (arith, limits _ (sym (limits-sound .limits-sound .ensures) ∙ then1 .if1 .taken))
 
 total-requires : tie.Need-total-requires
 total-requires c κs = search needs
@@ -32,9 +34,10 @@ refused-requires c κs = search needs
 returns : tie.Need-returns
 unfolding addGhostPair need
 returns c =
-    let s = c .before .before .before .before .before .before .args in
+    let (start, limits-sound, then1) : tie.Start × tie.After-limits-sound × tie.Then1 = search in
+    let s = start .args in
     let h : 62500000 < pairs (s .a) + s .amount = omega arith in
-    simp (c .refused .ensures .0, c .refused .ensures .1, ← (c .before .before .before .before .before .limits-sound .ensures), c .before .before .before .before .if1 .taken, lt-leb _ _ h)
+    simp (c .refused .ensures .0, c .refused .ensures .1, ← (limits-sound .limits-sound .ensures), then1 .if1 .taken, lt-leb _ _ h)
 
 add-with-ghosts : tie.Need-add-with-ghosts
 add-with-ghosts c = search needs
@@ -45,16 +48,19 @@ with-ghosts-requires c κs = search needs
 returns-2 : tie.Need-returns-2
 unfolding addGhostPair need
 returns-2 c =
-    let s = c .before .before .before .before .before .before .before .args in
+    let (start, limits-sound, then1) : tie.Start × tie.After-limits-sound × tie.Then1 = search in
+    let s = start .args in
     let h : pairs (s .a) + s .amount ≤ 62500000 = omega arith in
-    simp (c .with-ghosts .ensures, ← (c .before .before .before .before .before .before .limits-sound .ensures), c .before .before .before .before .before .if1 .taken, le-leb _ _ h)
+    simp (c .with-ghosts .ensures, ← (limits-sound .limits-sound .ensures), then1 .if1 .taken, le-leb _ _ h)
 
 refused-requires-2 : tie.Need-refused-requires-2
 refused-requires-2 c κs = search needs
 
 returns-3 : tie.Need-returns-3
 unfolding addGhostPair need
-returns-3 c = simp (c .refused2 .ensures .0, c .refused2 .ensures .1, ← (c .before .before .limits-sound .ensures), c .before .if1 .left)
+returns-3 c =
+    let (limits-sound, else1) : tie.After-limits-sound × tie.Else1 = search in
+    simp (c .refused2 .ensures .0, c .refused2 .ensures .1, ← (limits-sound .limits-sound .ensures), else1 .if1 .left)
 
 pub add-ghost-pair-spec : {M : Type 1} → statement M
 add-ghost-pair-spec =

@@ -19,21 +19,27 @@ refused-requires c κs = search needs
 
 returns : tie.Need-returns
 unfolding removeGhostPair need
-returns c = simp (c .refused .ensures .0, c .refused .ensures .1, ← (c .before .before .before .before .limits-sound .ensures), c .before .before .before .if1 .taken, lt-leb _ _ (c .before .if2 .taken))
+returns c =
+    let (limits-sound, then1, then2) : tie.After-limits-sound × tie.Then1 × tie.Then2 = search in
+    simp (c .refused .ensures .0, c .refused .ensures .1, ← (limits-sound .limits-sound .ensures), then1 .if1 .taken, lt-leb _ _ (then2 .if2 .taken))
 
 with-ghosts-requires : tie.Need-with-ghosts-requires
 with-ghosts-requires c κs = search needs
 
 returns-2 : tie.Need-returns-2
 unfolding removeGhostPair need
-returns-2 c = simp (c .with-ghosts .ensures, ← (c .before .before .before .before .before .limits-sound .ensures), c .before .before .before .before .if1 .taken, le-leb _ _ (c .before .before .if2 .left))
+returns-2 c =
+    let (limits-sound, then1, else2) : tie.After-limits-sound × tie.Then1 × tie.Else2 = search in
+    simp (c .with-ghosts .ensures, ← (limits-sound .limits-sound .ensures), then1 .if1 .taken, le-leb _ _ (else2 .if2 .left))
 
 refused-requires-2 : tie.Need-refused-requires-2
 refused-requires-2 c κs = search needs
 
 returns-3 : tie.Need-returns-3
 unfolding removeGhostPair need
-returns-3 c = simp (c .refused2 .ensures .0, c .refused2 .ensures .1, ← (c .before .before .limits-sound .ensures), c .before .if1 .left)
+returns-3 c =
+    let (limits-sound, else1) : tie.After-limits-sound × tie.Else1 = search in
+    simp (c .refused2 .ensures .0, c .refused2 .ensures .1, ← (limits-sound .limits-sound .ensures), else1 .if1 .left)
 
 pub remove-ghost-pair-spec : {M : Type 1} → statement M
 remove-ghost-pair-spec =

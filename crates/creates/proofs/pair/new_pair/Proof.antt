@@ -16,11 +16,14 @@ use Rattle.node.proofs.new.Reads as new-reads
 use Rattle.state.proofs.record.used_pair.Reads as used-pair-reads
 
 -- what the tests told
-room : (c : tie.After-enum-told) → let s = c .before .before .before .before .before .args in PairRoom (s .a) (length (s .firsts .now)) (length (s .rests .now))
+room : (c : tie.After-enum-told) →
+    let start : tie.Start = search in
+    let s = start .args in PairRoom (s .a) (length (s .firsts .now)) (length (s .rests .now))
 room c =
-    let s = c .before .before .before .before .before .args in
+    let (start, pair-tests) : tie.Start × tie.After-pair-tests = search in
+    let s = start .args in
     pair-passed (s .a) (s .first) (s .rest) (length (s .firsts .now)) (length (s .rests .now))
-    (sym (c .before .before .pair-tests .ensures) ∙ ap verdictPaper (c .enum-told .given .1))
+    (sym (pair-tests .pair-tests .ensures) ∙ ap verdictPaper (c .enum-told .given .1))
 
 pair-tests-requires : tie.Need-pair-tests-requires
 pair-tests-requires c κs = search needs
@@ -53,11 +56,13 @@ new-requires : tie.Need-new-requires
 new-requires c κs = omega (arith, room c)
 
 used-pair-requires : tie.Need-used-pair-requires
-used-pair-requires c κs = omega (arith, room (c .before))
+used-pair-requires c κs = omega (arith, room (search))
 
 returns : tie.Need-returns
 unfolding pairTests
-returns c = simp (c .refused .ensures .0, c .refused .ensures .1, ← (c .before .before .before .before .pair-tests .ensures), c .before .before .tests .given .1)
+returns c =
+    let (pair-tests, tests) : tie.After-pair-tests × tie.After-tests = search in
+    simp (c .refused .ensures .0, c .refused .ensures .1, ← (pair-tests .pair-tests .ensures), tests .tests .given .1)
 
 same-length : tie.Need-same-length
 same-length c = search needs
@@ -67,7 +72,9 @@ same-length-2 c = search needs
 
 returns-2 : tie.Need-returns-2
 unfolding pairTests
-returns-2 c = simp (c .used-pair .ensures, c .before .new .ensures, ← (c .before .before .before .before .pair-tests .ensures), c .before .before .enum-told .given .1)
+returns-2 c =
+    let (pair-tests, told, new) : tie.After-pair-tests × tie.After-enum-told × tie.After-new = search in
+    simp (c .used-pair .ensures, new .new .ensures, ← (pair-tests .pair-tests .ensures), told .enum-told .given .1)
 
 pub new-pair-spec : {M : Type 1} → statement M
 new-pair-spec =

@@ -29,8 +29,10 @@ total-requires c κs = search needs
 returns : tie.Need-returns
 unfolding need
 returns c =
-    let h : 62500000 ≤ pairs (c .before .before .before .before .before .before .before .before .args .a) = omega arith in
-    simp (← (c .before .before .before .before .before .before .before .pairs-sound .ensures), c .before .before .before .before .before .before .if1 .taken, ← (c .before .before .before .before .before .valid .ensures), c .before .before .before .before .if2 .taken, ← (c .before .before .before .valid2 .ensures), c .before .before .if3 .taken, le-ltb _ _ h)
+    let (start, pairs-sound, then1, valid, then2, valid2, then3) :
+    tie.Start × tie.After-pairs-sound × tie.Then1 × tie.After-valid × tie.Then2 × tie.After-valid2 × tie.Then3 = search in
+    let h : 62500000 ≤ pairs (start .args .a) = omega arith in
+    simp (← (pairs-sound .pairs-sound .ensures), then1 .if1 .taken, ← (valid .valid .ensures), then2 .if2 .taken, ← (valid2 .valid2 .ensures), then3 .if3 .taken, le-ltb _ _ h)
 
 slot-room-requires : tie.Need-slot-room-requires
 slot-room-requires c κs = search needs
@@ -38,26 +40,36 @@ slot-room-requires c κs = search needs
 returns-2 : tie.Need-returns-2
 unfolding need
 returns-2 c =
-    let h : pairs (c .before .before .before .before .before .before .before .before .before .before .args .a) < 62500000 = omega arith in
-    simp (← (c .before .before .before .before .before .before .before .before .before .pairs-sound .ensures), c .before .before .before .before .before .before .before .before .if1 .taken, ← (c .before .before .before .before .before .before .before .valid .ensures), c .before .before .before .before .before .before .if2 .taken, ← (c .before .before .before .before .before .valid2 .ensures), c .before .before .before .before .if3 .taken, lt-ltb _ _ h, ← (c .before .slot-room .ensures), c .if5 .taken)
+    let (start, pairs-sound, then1, valid, then2, valid2, then3, slot-room) :
+    tie.Start × tie.After-pairs-sound × tie.Then1 × tie.After-valid × tie.Then2 × tie.After-valid2 × tie.Then3 × tie.After-slot-room = search in
+    let h : pairs (start .args .a) < 62500000 = omega arith in
+    simp (← (pairs-sound .pairs-sound .ensures), then1 .if1 .taken, ← (valid .valid .ensures), then2 .if2 .taken, ← (valid2 .valid2 .ensures), then3 .if3 .taken, lt-ltb _ _ h, ← (slot-room .slot-room .ensures), c .if5 .taken)
 
 returns-3 : tie.Need-returns-3
 unfolding need
 returns-3 c =
-    let h : pairs (c .before .before .before .before .before .before .before .before .before .before .args .a) < 62500000 = omega arith in
-    simp (← (c .before .before .before .before .before .before .before .before .before .pairs-sound .ensures), c .before .before .before .before .before .before .before .before .if1 .taken, ← (c .before .before .before .before .before .before .before .valid .ensures), c .before .before .before .before .before .before .if2 .taken, ← (c .before .before .before .before .before .valid2 .ensures), c .before .before .before .before .if3 .taken, lt-ltb _ _ h, ← (c .before .slot-room .ensures), c .if5 .left)
+    let (start, pairs-sound, then1, valid, then2, valid2, then3, slot-room) :
+    tie.Start × tie.After-pairs-sound × tie.Then1 × tie.After-valid × tie.Then2 × tie.After-valid2 × tie.Then3 × tie.After-slot-room = search in
+    let h : pairs (start .args .a) < 62500000 = omega arith in
+    simp (← (pairs-sound .pairs-sound .ensures), then1 .if1 .taken, ← (valid .valid .ensures), then2 .if2 .taken, ← (valid2 .valid2 .ensures), then3 .if3 .taken, lt-ltb _ _ h, ← (slot-room .slot-room .ensures), c .if5 .left)
 
 returns-4 : tie.Need-returns-4
 unfolding need
-returns-4 c = simp (← (c .before .before .before .before .before .pairs-sound .ensures), c .before .before .before .before .if1 .taken, ← (c .before .before .before .valid .ensures), c .before .before .if2 .taken, ← (c .before .valid2 .ensures), c .if3 .left)
+returns-4 c =
+    let (pairs-sound, then1, valid, then2, valid2) : tie.After-pairs-sound × tie.Then1 × tie.After-valid × tie.Then2 × tie.After-valid2 = search in
+    simp (← (pairs-sound .pairs-sound .ensures), then1 .if1 .taken, ← (valid .valid .ensures), then2 .if2 .taken, ← (valid2 .valid2 .ensures), c .if3 .left)
 
 returns-5 : tie.Need-returns-5
 unfolding need
-returns-5 c = simp (← (c .before .before .before .pairs-sound .ensures), c .before .before .if1 .taken, ← (c .before .valid .ensures), c .if2 .left)
+returns-5 c =
+    let (pairs-sound, then1, valid) : tie.After-pairs-sound × tie.Then1 × tie.After-valid = search in
+    simp (← (pairs-sound .pairs-sound .ensures), then1 .if1 .taken, ← (valid .valid .ensures), c .if2 .left)
 
 returns-6 : tie.Need-returns-6
 unfolding need
-returns-6 c = simp (← (c .before .pairs-sound .ensures), c .if1 .left)
+returns-6 c =
+    let pairs-sound : tie.After-pairs-sound = search in
+    simp (← (pairs-sound .pairs-sound .ensures), c .if1 .left)
 
 pub pair-tests-spec : {M : Type 1} → statement M
 pair-tests-spec =

@@ -22,7 +22,9 @@ enum-known-found-2 : tie.Need-enum-known-found-2
 enum-known-found-2 c = search needs
 
 sub-bounds-check : tie.Need-sub-bounds-check
-sub-bounds-check c = omega (arith, atom-in _ _ _ _ (sym (c .before .before .before .atom-of .ensures) ∙ ap atomPaper (c .before .found2 .given .1)))
+sub-bounds-check c =
+    let (atom-of, found2) : tie.After-atom-of × tie.After-found2 = search in
+    omega (arith, atom-in _ _ _ _ (sym (atom-of .atom-of .ensures) ∙ ap atomPaper (found2 .found2 .given .1)))
 
 bounds-check-requires : tie.Need-bounds-check-requires
 bounds-check-requires c κs = search needs
@@ -37,13 +39,19 @@ bounds-check-requires-2 : tie.Need-bounds-check-requires-2
 bounds-check-requires-2 c κs = search needs
 
 returns : tie.Need-returns
-returns c = simp (← (c .before .before .before .atom-of .ensures), c .before .found .given .1)
+returns c =
+    let (atom-of, found) : tie.After-atom-of × tie.After-found = search in
+    simp (← (atom-of .atom-of .ensures), found .found .given .1)
 
 returns-2 : tie.Need-returns-2
-returns-2 c = simp (c .bounds-check .ensures, ← (c .before .before .before .before .atom-of .ensures), c .before .before .found2 .given .1)
+returns-2 c =
+    let (atom-of, found2) : tie.After-atom-of × tie.After-found2 = search in
+    simp (c .bounds-check .ensures, ← (atom-of .atom-of .ensures), found2 .found2 .given .1)
 
 returns-3 : tie.Need-returns-3
-returns-3 c = simp (c .bounds-check2 .ensures, c .before .len-for-value .ensures, ← (c .before .before .before .before .before .atom-of .ensures), c .before .before .before .found3 .given .1)
+returns-3 c =
+    let (atom-of, found3, len-for-value) : tie.After-atom-of × tie.After-found3 × tie.After-len-for-value = search in
+    simp (c .bounds-check2 .ensures, len-for-value .len-for-value .ensures, ← (atom-of .atom-of .ensures), found3 .found3 .given .1)
 
 pub bounded-atom-spec : {M : Type 1} → statement M
 bounded-atom-spec =

@@ -25,7 +25,9 @@ len-for-value-requires : tie.Need-len-for-value-requires
 len-for-value-requires c κs = search needs
 
 sub-from : tie.Need-sub-from
-sub-from c = omega (arith, small-length (c .before .before .before .before .before .before .before .args .v) (c .before .before .before .before .before .before .before .pre .1 .0), c .len-for-value .ensures)
+sub-from c =
+    let start : tie.Start = search in
+    omega (arith, small-length (start .args .v) (start .pre .1 .0), c .len-for-value .ensures)
 
 add-i : tie.Need-add-i
 add-i c = search needs
@@ -41,8 +43,9 @@ part-small-or-start c = search needs
 
 part-small-or-end : tie.Need-part-small-or-end
 part-small-or-end c =
-    let e : length (c .before .before .before .before .before .before .put-be .last .0) ≡ 4 = rw (c .before .before .before .before .before .before .put-be .ensures) (simp (length-append, length-be)) in
-    omega (arith, small-length (c .before .before .before .before .before .before .before .before .before .before .before .args .v) (c .before .before .before .before .before .before .before .before .before .before .before .pre .1 .0), c .before .before .before .before .len-for-value .ensures)
+    let (start, put-be, len-for-value) : tie.Start × tie.After-put-be × tie.After-len-for-value = search in
+    let e : length (put-be .put-be .last .0) ≡ 4 = rw (put-be .put-be .ensures) (simp (length-append, length-be)) in
+    omega (arith, small-length (start .args .v) (start .pre .1 .0), len-for-value .len-for-value .ensures)
 
 small-or-requires : tie.Need-small-or-requires
 small-or-requires c κs = search needs
@@ -58,9 +61,10 @@ same-length-3 c = search needs
 
 returns : tie.Need-returns
 returns c =
-    let s = c .before .before .before .before .before .before .before .before .before .before .before .before .before .before .before .before .before .before .before .args in
-    let p = c .before .before .before .before .before .before .before .before .before .before .before .before .before .before .before .before .before .before .before .pre .1 in
-    simp (c .before .before .before .before .before .before .small-or .ensures, c .before .before .before .before .before .before .before .before .before .before .before .before .before .before .put-be .ensures, c .before .before .before .before .before .before .before .before .before .before .before .before .len-for-value .ensures, small-part (s .v) (s .start) (s .end) [] (small-length (s .v) (p .0)) (p .1) (p .2))
+    let (start, put-be, len-for-value, small-or) : tie.Start × tie.After-put-be × tie.After-len-for-value × tie.After-small-or = search in
+    let s = start .args in
+    let p = start .pre .1 in
+    simp (small-or .small-or .ensures, put-be .put-be .ensures, len-for-value .len-for-value .ensures, small-part (s .v) (s .start) (s .end) [] (small-length (s .v) (p .0)) (p .1) (p .2))
 
 pub part-of-small-spec : {M : Type 1} → statement M
 part-of-small-spec =

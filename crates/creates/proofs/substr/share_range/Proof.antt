@@ -17,8 +17,12 @@ use Rattle.node.proofs.new.Reads as new-reads
 use Rattle.state.proofs.record.used_atom.Reads as used-atom-reads
 
 -- what the test of the room told
-room : (c : tie.Then1) → let s = c .before .before .before .before .args in (s .a .used .atoms < length (s .starts .now)) × (s .a .used .atoms < length (s .ends .now))
-room c = let s = c .before .before .before .before .args in slot-room (s .a .used .atoms) (length (s .starts .now)) (length (s .ends .now)) (sym (c .before .slot-room .ensures) ∙ c .if1 .taken)
+room : (c : tie.Then1) →
+    let start : tie.Start = search in
+    let s = start .args in (s .a .used .atoms < length (s .starts .now)) × (s .a .used .atoms < length (s .ends .now))
+room c =
+    let (start, at-slot-room) : tie.Start × tie.After-slot-room = search in
+    let s = start .args in slot-room (s .a .used .atoms) (length (s .starts .now)) (length (s .ends .now)) (sym (at-slot-room .slot-room .ensures) ∙ c .if1 .taken)
 
 slot-room-requires : tie.Need-slot-room-requires
 slot-room-requires c κs = search needs
@@ -58,14 +62,18 @@ same-length-2 c = search needs
 
 returns : tie.Need-returns
 unfolding shareRange need
-returns c = λ b. simp (c .used-atom .ensures, c .before .new .ensures, ← (c .before .before .before .slot-room .ensures), c .before .before .if1 .taken)
+returns c =
+    let (at-slot-room, then1, new) : tie.After-slot-room × tie.Then1 × tie.After-new = search in
+    λ b. simp (c .used-atom .ensures, new .new .ensures, ← (at-slot-room .slot-room .ensures), then1 .if1 .taken)
 
 refused-requires : tie.Need-refused-requires
 refused-requires c κs = search needs
 
 returns-2 : tie.Need-returns-2
 unfolding shareRange need
-returns-2 c = λ b. simp (c .refused .ensures .0, c .refused .ensures .1, ← (c .before .before .slot-room .ensures), c .before .if1 .left)
+returns-2 c =
+    let (at-slot-room, else1) : tie.After-slot-room × tie.Else1 = search in
+    λ b. simp (c .refused .ensures .0, c .refused .ensures .1, ← (at-slot-room .slot-room .ensures), else1 .if1 .left)
 
 pub share-range-spec : {M : Type 1} → statement M
 share-range-spec =

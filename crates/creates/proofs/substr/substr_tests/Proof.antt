@@ -24,21 +24,27 @@ total-requires c κs = search needs
 returns : tie.Need-returns
 unfolding need
 returns c =
-    let h : 62500000 ≤ atoms (c .before .before .before .before .before .before .args .a) = omega arith in
-    simp (← (c .before .before .before .store-sound .ensures), c .before .before .if1 .taken, le-ltb _ _ h)
+    let (start, store-sound, then1) : tie.Start × tie.After-store-sound × tie.Then1 = search in
+    let h : 62500000 ≤ atoms (start .args .a) = omega arith in
+    simp (← (store-sound .store-sound .ensures), then1 .if1 .taken, le-ltb _ _ h)
 
 bounded-atom-requires : tie.Need-bounded-atom-requires
-bounded-atom-requires c κs = omega (arith, store-lent _ _ _ _ (sym (c .before .before .before .store-sound .ensures) ∙ c .before .before .if1 .taken))
+bounded-atom-requires c κs =
+    let (store-sound, then1) : tie.After-store-sound × tie.Then1 = search in
+    omega (arith, store-lent _ _ _ _ (sym (store-sound .store-sound .ensures) ∙ then1 .if1 .taken))
 
 returns-2 : tie.Need-returns-2
 unfolding need
 returns-2 c =
-    let h : atoms (c .before .before .before .before .before .before .before .args .a) < 62500000 = omega arith in
-    simp (c .bounded-atom .ensures, ← (c .before .before .before .before .store-sound .ensures), c .before .before .before .if1 .taken, lt-ltb _ _ h)
+    let (start, store-sound, then1) : tie.Start × tie.After-store-sound × tie.Then1 = search in
+    let h : atoms (start .args .a) < 62500000 = omega arith in
+    simp (c .bounded-atom .ensures, ← (store-sound .store-sound .ensures), then1 .if1 .taken, lt-ltb _ _ h)
 
 returns-3 : tie.Need-returns-3
 unfolding need
-returns-3 c = simp (← (c .before .store-sound .ensures), c .if1 .left)
+returns-3 c =
+    let store-sound : tie.After-store-sound = search in
+    simp (← (store-sound .store-sound .ensures), c .if1 .left)
 
 pub substr-tests-spec : {M : Type 1} → statement M
 substr-tests-spec =

@@ -22,17 +22,22 @@ loop-holds : tie.Need-loop-holds Inv-loop μ-loop
 loop-holds c = (omega arith, omega arith, number-none (c .args .first) (c .args .more .now))
 
 mul-n : tie.Need-mul-n Inv-loop μ-loop
-mul-n c = omega (arith, number-room (c .before .loop .i) (omega arith))
+mul-n c =
+    let loop : tie.At-loop Inv-loop μ-loop = search in
+    omega (arith, number-room (loop .loop .i) (omega arith))
 
 shared-slice-read-n : tie.Need-shared-slice-read-n Inv-loop μ-loop
 shared-slice-read-n c = search needs
 
 cast-n : tie.Need-cast-n Inv-loop μ-loop
-cast-n c = omega (arith, c .shared-slice-known .given (c .before .before .loop .i))
+cast-n c =
+    let loop : tie.At-loop Inv-loop μ-loop = search in
+    omega (arith, c .shared-slice-known .given (loop .loop .i))
 
 add-n : tie.Need-add-n Inv-loop μ-loop
 add-n c =
-    let i = c .before .before .loop .i in
+    let loop : tie.At-loop Inv-loop μ-loop = search in
+    let i = loop .loop .i in
     omega (arith, c .shared-slice-known .given i, number-room i (omega arith))
 
 add-i : tie.Need-add-i Inv-loop μ-loop
@@ -43,8 +48,9 @@ loop-less c = search needs
 
 loop-again : tie.Need-loop-again Inv-loop μ-loop
 loop-again c =
-    let v = c .before .before .before .args .more .now in
-    let l = c .before .before .loop in (
+    let (start, loop) : tie.Start Inv-loop μ-loop × tie.At-loop Inv-loop μ-loop = search in
+    let v = start .args .more .now in
+    let l = loop .loop in (
       omega arith,
       big-bits (l .n) (getD v (l .i) 0) (l .i + 1) (l .inv .1) (omega (arith, c .shared-slice-known .given (l .i))),
       big-step v (l .n) (l .i) (omega arith) ∙ l .inv .2,
@@ -53,9 +59,10 @@ loop-again c =
 returns : tie.Need-returns Inv-loop μ-loop
 unfolding big
 returns c =
-    let v = c .before .before .args .more .now in
-    let i = c .before .loop .i in
-    omega (arith, rw (drop-of-length-le v {i = i} (omega arith)) at (c .before .loop .inv .2))
+    let (start, loop) : tie.Start Inv-loop μ-loop × tie.At-loop Inv-loop μ-loop = search in
+    let v = start .args .more .now in
+    let i = loop .loop .i in
+    omega (arith, rw (drop-of-length-le v {i = i} (omega arith)) at (loop .loop .inv .2))
 
 pub number-spec : {M : Type 1} → statement M
 number-spec =

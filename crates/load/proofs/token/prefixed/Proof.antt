@@ -15,7 +15,9 @@ sub-left-2 : tie.Need-sub-left-2
 sub-left-2 c = search needs
 
 returns : tie.Need-returns
-returns c = prefix-cut (now (c .before .before .args .f)) (c .before .before .args .at) (c .before .before .args .k) (omega arith)
+returns c =
+    let start : tie.Start = search in
+    prefix-cut (now (start .args .f)) (start .args .at) (start .args .k) (omega arith)
 
 add-from : tie.Need-add-from
 add-from c = search needs
@@ -27,7 +29,9 @@ shared-slice-read-first : tie.Need-shared-slice-read-first
 shared-slice-read-first c = search needs
 
 cast-first : tie.Need-cast-first
-cast-first c = omega (arith, c .shared-slice-known2 .given (c .before .before .before .args .at))
+cast-first c =
+    let start : tie.Start = search in
+    omega (arith, c .shared-slice-known2 .given (start .args .at))
 
 mark-requires : tie.Need-mark-requires
 mark-requires c κs = search needs
@@ -49,24 +53,27 @@ part-number-end c = search needs
 
 number-requires : tie.Need-number-requires
 number-requires c κs =
-    let a = c .before .before .before .before .before .args in
+    let (start, shared-slice-known2) : tie.Start × tie.After-shared-slice-known2 = search in
+    let a = start .args in
     let n : ℕ = a .at + 1 + a .k - (a .at + 1) in
-    (omega (arith, c .before .before .shared-slice-known2 .given (a .at)), omega (arith, length-take n (drop (a .at + 1) (now (a .f)))))
+    (omega (arith, shared-slice-known2 .shared-slice-known2 .given (a .at)), omega (arith, length-take n (drop (a .at + 1) (now (a .f)))))
 
 returns-2 : tie.Need-returns-2
 returns-2 c =
-    let a = c .before .before .before .before .before .before .before .args in
-    bytes-cut (now (a .f)) (a .at) (a .k) (c .before .number .result) (omega arith)
-    (length-is (now (a .f)) (a .at) (a .k) (c .before .number .result) (c .before .before .before .mark .result) (c .before .number .ensures) (c .before .before .before .mark .ensures)) (omega arith)
+    let (start, mark, number) : tie.Start × tie.After-mark × tie.After-number = search in
+    let a = start .args in
+    bytes-cut (now (a .f)) (a .at) (a .k) (number .number .result) (omega arith)
+    (length-is (now (a .f)) (a .at) (a .k) (number .number .result) (mark .mark .result) (number .number .ensures) (mark .mark .ensures)) (omega arith)
 
 add-t8 : tie.Need-add-t8
 add-t8 c = search needs
 
 returns-3 : tie.Need-returns-3
 returns-3 c =
-    let a = c .before .before .before .before .before .before .before .args in
-    bytes-in (now (a .f)) (a .at) (a .k) (c .before .number .result) (omega arith)
-    (length-is (now (a .f)) (a .at) (a .k) (c .before .number .result) (c .before .before .before .mark .result) (c .before .number .ensures) (c .before .before .before .mark .ensures)) (omega arith)
+    let (start, mark, number) : tie.Start × tie.After-mark × tie.After-number = search in
+    let a = start .args in
+    bytes-in (now (a .f)) (a .at) (a .k) (number .number .result) (omega arith)
+    (length-is (now (a .f)) (a .at) (a .k) (number .number .result) (mark .mark .result) (number .number .ensures) (mark .mark .ensures)) (omega arith)
 
 pub prefixed-spec : {M : Type 1} → statement M
 prefixed-spec =

@@ -7,7 +7,9 @@ use Rattle.outline.proofs.page.write.Statement.{statement}
 use Rattle.outline.proofs.page.write.Tie as tie
 
 slice-aggregate-write-all : tie.Need-slice-aggregate-write-all
-slice-aggregate-write-all c = sym (length-take-le (c .before .before .args .w) (now (c .before .before .args .out)) (c .before .before .pre))
+slice-aggregate-write-all c =
+    let start : tie.Start = search in
+    sym (length-take-le (start .args .w) (now (start .args .out)) (start .pre))
 
 write-all-requires : tie.Need-write-all-requires
 write-all-requires c κs = search needs

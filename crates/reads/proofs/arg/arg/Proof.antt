@@ -18,7 +18,9 @@ enum-known-view c = search needs
 
 returns : tie.Need-returns
 unfolding argOf need
-returns c = simp (← (c .before .before .before .before .before .view .ensures), c .before .before .before .view2 .given .1, lt-ltb _ _ (c .if1 .taken))
+returns c =
+    let (view, view2) : tie.After-view × tie.After-view2 = search in
+    simp (← (view .view .ensures), view2 .view2 .given .1, lt-ltb _ _ (c .if1 .taken))
 
 enum-known-view-2 : tie.Need-enum-known-view-2
 enum-known-view-2 c = search needs
@@ -34,18 +36,26 @@ enum-told c = search needs
 
 returns-2 : tie.Need-returns-2
 unfolding argOf need
-returns-2 c = simp (← (c .before .before .before .before .before .view .ensures), c .before .before .before .view2 .given .1, le-ltb _ _ (c .if1 .left))
+returns-2 c =
+    let (view, view2) : tie.After-view × tie.After-view2 = search in
+    simp (← (view .view .ensures), view2 .view2 .given .1, le-ltb _ _ (c .if1 .left))
 
 returns-3 : tie.Need-returns-3
-returns-3 c = simp (c .slot .ensures, ← (c .before .before .before .before .view .ensures), c .before .before .view3 .given .1)
+returns-3 c =
+    let (view, view3) : tie.After-view × tie.After-view3 = search in
+    simp (c .slot .ensures, ← (view .view .ensures), view3 .view3 .given .1)
 
 returns-4 : tie.Need-returns-4
 unfolding argOf
-returns-4 c = simp (← (c .before .before .before .view .ensures), c .before .view4 .given .1)
+returns-4 c =
+    let (view, view4) : tie.After-view × tie.After-view4 = search in
+    simp (← (view .view .ensures), view4 .view4 .given .1)
 
 returns-5 : tie.Need-returns-5
 unfolding argOf
-returns-5 c = simp (← (c .before .before .view .ensures), c .enum-told .given .1)
+returns-5 c =
+    let view : tie.After-view = search in
+    simp (← (view .view .ensures), c .enum-told .given .1)
 
 pub arg-spec : {M : Type 1} → statement M
 arg-spec =

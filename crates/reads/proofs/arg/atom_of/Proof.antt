@@ -22,16 +22,24 @@ enum-known-found-3 : tie.Need-enum-known-found-3
 enum-known-found-3 c = search needs
 
 returns : tie.Need-returns
-returns c = simp (← (c .before .before .arg .ensures), c .enum-told .given .1)
+returns c =
+    let arg : tie.After-arg = search in
+    simp (← (arg .arg .ensures), c .enum-told .given .1)
 
 returns-2 : tie.Need-returns-2
-returns-2 c = simp (← (c .before .before .before .arg .ensures), c .before .found .given .1)
+returns-2 c =
+    let (arg, found) : tie.After-arg × tie.After-found = search in
+    simp (← (arg .arg .ensures), found .found .given .1)
 
 returns-3 : tie.Need-returns-3
-returns-3 c = simp (← (c .before .before .before .arg .ensures), c .before .found2 .given .1)
+returns-3 c =
+    let (arg, found2) : tie.After-arg × tie.After-found2 = search in
+    simp (← (arg .arg .ensures), found2 .found2 .given .1)
 
 returns-4 : tie.Need-returns-4
-returns-4 c = simp (← (c .before .before .before .arg .ensures), c .before .found3 .given .1)
+returns-4 c =
+    let (arg, found3) : tie.After-arg × tie.After-found3 = search in
+    simp (← (arg .arg .ensures), found3 .found3 .given .1)
 
 pub atom-of-spec : {M : Type 1} → statement M
 atom-of-spec =

@@ -37,11 +37,15 @@ wide-requires-2 c κs = search needs
 
 returns-2 : tie.Need-returns-2
 unfolding argOf need
-returns-2 c = simp (c .wide2 .ensures, c .before .wide .ensures, lt-ltb _ _ (c .before .before .before .before .before .before .if1 .left), ← (c .before .before .before .range-sound .ensures), c .before .before .if2 .taken)
+returns-2 c =
+    let (else1, range-sound, then2, wide) : tie.Else1 × tie.After-range-sound × tie.Then2 × tie.After-wide = search in
+    simp (c .wide2 .ensures, wide .wide .ensures, lt-ltb _ _ (else1 .if1 .left), ← (range-sound .range-sound .ensures), then2 .if2 .taken)
 
 returns-3 : tie.Need-returns-3
 unfolding argOf need
-returns-3 c = simp (lt-ltb _ _ (c .before .before .before .before .if1 .left), ← (c .before .range-sound .ensures), c .if2 .left)
+returns-3 c =
+    let (else1, range-sound) : tie.Else1 × tie.After-range-sound = search in
+    simp (lt-ltb _ _ (else1 .if1 .left), ← (range-sound .range-sound .ensures), c .if2 .left)
 
 pub slot-spec : {M : Type 1} → statement M
 slot-spec =

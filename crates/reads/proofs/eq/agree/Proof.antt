@@ -24,25 +24,30 @@ shared-slice-read-if1 : tie.Need-shared-slice-read-if1 Inv-loop μ-loop
 shared-slice-read-if1 c = omega arith
 
 shared-slice-read-if1-2 : tie.Need-shared-slice-read-if1-2 Inv-loop μ-loop
-shared-slice-read-if1-2 c = omega (arith, c .before .before .before .before .pre)
+shared-slice-read-if1-2 c =
+    let start : tie.Start Inv-loop μ-loop = search in
+    omega (arith, start .pre)
 
 loop-again : tie.Need-loop-again Inv-loop μ-loop
 loop-again c =
-    let a = c .before .before .before .before .before .args in
-    let l = c .before .before .before .before .loop in
-    (omega arith, l .inv .1 ∙ ap (λ b. eqb (l .odd) 0 && b) (same-step (a .x .now) (a .y .now) (l .i) (omega arith) (omega (arith, c .before .before .before .before .before .pre)) (c .if1 .taken)))
+    let (start, loop) : tie.Start Inv-loop μ-loop × tie.At-loop Inv-loop μ-loop = search in
+    let a = start .args in
+    let l = loop .loop in
+    (omega arith, l .inv .1 ∙ ap (λ b. eqb (l .odd) 0 && b) (same-step (a .x .now) (a .y .now) (l .i) (omega arith) (omega (arith, start .pre)) (c .if1 .taken)))
 
 loop-again-2 : tie.Need-loop-again-2 Inv-loop μ-loop
 loop-again-2 c =
-    let a = c .before .before .before .before .before .args in
-    let l = c .before .before .before .before .loop in
-    (omega arith, l .inv .1 ∙ ap (λ b. eqb (l .odd) 0 && b) (same-stop (a .x .now) (a .y .now) (l .i) (omega arith) (omega (arith, c .before .before .before .before .before .pre)) (c .if1 .left)) ∙ and-false (eqb (l .odd) 0))
+    let (start, loop) : tie.Start Inv-loop μ-loop × tie.At-loop Inv-loop μ-loop = search in
+    let a = start .args in
+    let l = loop .loop in
+    (omega arith, l .inv .1 ∙ ap (λ b. eqb (l .odd) 0 && b) (same-stop (a .x .now) (a .y .now) (l .i) (omega arith) (omega (arith, start .pre)) (c .if1 .left)) ∙ and-false (eqb (l .odd) 0))
 
 returns : tie.Need-returns Inv-loop μ-loop
 returns c =
-    let a = c .before .before .args in
-    let l = c .before .loop in
-    sym (l .inv .1 ∙ ap (λ b. eqb (l .odd) 0 && b) (same-end (a .x .now) (a .y .now) (l .i) (omega arith) (omega (arith, c .before .before .pre))) ∙ and-true (eqb (l .odd) 0))
+    let (start, loop) : tie.Start Inv-loop μ-loop × tie.At-loop Inv-loop μ-loop = search in
+    let a = start .args in
+    let l = loop .loop in
+    sym (l .inv .1 ∙ ap (λ b. eqb (l .odd) 0 && b) (same-end (a .x .now) (a .y .now) (l .i) (omega arith) (omega (arith, start .pre))) ∙ and-true (eqb (l .odd) 0))
 
 pub agree-spec : {M : Type 1} → statement M
 agree-spec =

@@ -16,7 +16,9 @@ abbrev μ-loop : tie.MeasureT-loop
 μ-loop x y from size i₀ i = length x - i
 
 loop-holds : tie.Need-loop-holds Inv-loop μ-loop
-loop-holds c = (omega (arith, c .before .before .pre), refl)
+loop-holds c =
+    let start : tie.Start Inv-loop μ-loop = search in
+    (omega (arith, start .pre), refl)
 
 sub-loop : tie.Need-sub-loop Inv-loop μ-loop
 sub-loop c = omega arith
@@ -40,31 +42,40 @@ part-agree-start-2 : tie.Need-part-agree-start-2 Inv-loop μ-loop
 part-agree-start-2 c = omega arith
 
 part-agree-end-2 : tie.Need-part-agree-end-2 Inv-loop μ-loop
-part-agree-end-2 c = omega (arith, c .before .before .before .before .before .pre)
+part-agree-end-2 c =
+    let start : tie.Start Inv-loop μ-loop = search in
+    omega (arith, start .pre)
 
 agree-requires : tie.Need-agree-requires Inv-loop μ-loop
-agree-requires c κs = simp (length-take, length-drop, c .before .before .before .before .before .before .pre .0)
+agree-requires c κs =
+    let start : tie.Start Inv-loop μ-loop = search in
+    simp (length-take, length-drop, start .pre .0)
 
 loop-less : tie.Need-loop-less Inv-loop μ-loop
-loop-less c = omega (arith, c .before .before .before .before .before .before .before .before .pre)
+loop-less c =
+    let start : tie.Start Inv-loop μ-loop = search in
+    omega (arith, start .pre)
 
 loop-again : tie.Need-loop-again Inv-loop μ-loop
 loop-again c =
-    let a = c .before .before .before .before .before .before .before .before .args in
-    let i = c .before .before .before .before .before .loop .i in
+    let (start, loop, agree) : tie.Start Inv-loop μ-loop × tie.At-loop Inv-loop μ-loop × tie.After-agree Inv-loop μ-loop = search in
+    let a = start .args in
+    let i = loop .loop .i in
     let n = i + a .size - i in
     let z : i + n ≡ i + a .size = omega arith in
-    (omega arith, c .before .before .before .before .before .loop .inv .1 ∙ same-block (a .x .now) (a .y .now) n i (sym (c .before .agree .ensures) ∙ c .if1 .taken) ∙ ap (λ k. sameBytes (drop k (a .x .now)) (drop k (a .y .now))) z)
+    (omega arith, loop .loop .inv .1 ∙ same-block (a .x .now) (a .y .now) n i (sym (agree .agree .ensures) ∙ c .if1 .taken) ∙ ap (λ k. sameBytes (drop k (a .x .now)) (drop k (a .y .now))) z)
 
 returns : tie.Need-returns Inv-loop μ-loop
 returns c =
-    let a = c .before .before .before .before .before .before .before .before .args in
-    let l = c .before .before .before .before .before .loop in
-    (l .inv .0, l .inv .1, λ h. odd-block (drop (l .i) (a .x .now)) (drop (l .i) (a .y .now)) (l .i + a .size - l .i) (sym (c .before .agree .ensures) ∙ c .if1 .left))
+    let (start, loop, agree) : tie.Start Inv-loop μ-loop × tie.At-loop Inv-loop μ-loop × tie.After-agree Inv-loop μ-loop = search in
+    let a = start .args in
+    let l = loop .loop in
+    (l .inv .0, l .inv .1, λ h. odd-block (drop (l .i) (a .x .now)) (drop (l .i) (a .y .now)) (l .i + a .size - l .i) (sym (agree .agree .ensures) ∙ c .if1 .left))
 
 returns-2 : tie.Need-returns-2 Inv-loop μ-loop
 returns-2 c =
-    let l = c .before .loop in
+    let loop : tie.At-loop Inv-loop μ-loop = search in
+    let l = loop .loop in
     (l .inv .0, l .inv .1, λ h. absurd (omega arith))
 
 pub ahead-spec : {M : Type 1} → statement M

@@ -10,23 +10,32 @@ use Rattle.reads.proofs.eq.atom_eq.Statement.{statement}
 use Rattle.reads.proofs.eq.atom_eq.Tie as tie
 
 arg-requires : tie.Need-arg-requires
-arg-requires c κs = omega (arith, store-lent _ _ _ _ (sym (c .before .store-sound .ensures) ∙ c .if1 .taken))
+arg-requires c κs =
+    let store-sound : tie.After-store-sound = search in
+    omega (arith, store-lent _ _ _ _ (sym (store-sound .store-sound .ensures) ∙ c .if1 .taken))
 
 arg-requires-2 : tie.Need-arg-requires-2
-arg-requires-2 c κs = omega (arith, store-lent _ _ _ _ (sym (c .before .before .store-sound .ensures) ∙ c .before .if1 .taken))
+arg-requires-2 c κs =
+    let (store-sound, then1) : tie.After-store-sound × tie.Then1 = search in
+    omega (arith, store-lent _ _ _ _ (sym (store-sound .store-sound .ensures) ∙ then1 .if1 .taken))
 
 eq-args-requires : tie.Need-eq-args-requires
 eq-args-requires c κs =
-    let f = store-lent _ _ _ _ (sym (c .before .before .before .store-sound .ensures) ∙ c .before .before .if1 .taken) .bytes-fit in
-    (rw (c .before .arg .ensures) (inside _ _ _ _ f), rw (c .arg2 .ensures) (inside _ _ _ _ f))
+    let (store-sound, then1, arg) : tie.After-store-sound × tie.Then1 × tie.After-arg = search in
+    let f = store-lent _ _ _ _ (sym (store-sound .store-sound .ensures) ∙ then1 .if1 .taken) .bytes-fit in
+    (rw (arg .arg .ensures) (inside _ _ _ _ f), rw (c .arg2 .ensures) (inside _ _ _ _ f))
 
 returns : tie.Need-returns
 unfolding atomEq need
-returns c = simp (c .eq-args .ensures, c .before .before .arg .ensures, c .before .arg2 .ensures, ← (c .before .before .before .before .store-sound .ensures), c .before .before .before .if1 .taken)
+returns c =
+    let (store-sound, then1, arg, arg2) : tie.After-store-sound × tie.Then1 × tie.After-arg × tie.After-arg2 = search in
+    simp (c .eq-args .ensures, arg .arg .ensures, arg2 .arg2 .ensures, ← (store-sound .store-sound .ensures), then1 .if1 .taken)
 
 returns-2 : tie.Need-returns-2
 unfolding atomEq need
-returns-2 c = simp (← (c .before .store-sound .ensures), c .if1 .left)
+returns-2 c =
+    let store-sound : tie.After-store-sound = search in
+    simp (← (store-sound .store-sound .ensures), c .if1 .left)
 
 pub atom-eq-spec : {M : Type 1} → statement M
 atom-eq-spec =

@@ -4,7 +4,9 @@ use Rattle.reads.proofs.eq.pair_left.Statement.{statement}
 use Rattle.reads.proofs.eq.pair_left.Tie as tie
 
 returns : tie.Need-returns
-returns c = λ bytes rhs i. simp (c .before .right .given .1)
+returns c =
+    let right : tie.After-right = search in
+    λ bytes rhs i. simp (right .right .given .1)
 
 returns-2 : tie.Need-returns-2
 returns-2 c = λ bytes rhs i. simp (c .enum-told .given .1)

@@ -8,10 +8,15 @@ use Rattle.reads.proofs.eq.same_small.Statement.{statement}
 use Rattle.reads.proofs.eq.same_small.Tie as tie
 
 returns : tie.Need-returns
-returns c = sym (same-fits _ _ _ (c .before .before .before .before .before .pre) (λ i. omega (arith, c .before .before .before .before .shared-slice-known .given i)) (sym (c .before .before .before .fits-in-small-atom .ensures) ∙ ap fitsPaper (c .before .found .given .1)))
+returns c =
+    let (start, shared-slice-known, fits-in-small-atom, found) :
+    tie.Start × tie.After-shared-slice-known × tie.After-fits-in-small-atom × tie.After-found = search in
+    sym (same-fits _ _ _ (start .pre) (λ i. omega (arith, shared-slice-known .shared-slice-known .given i)) (sym (fits-in-small-atom .fits-in-small-atom .ensures) ∙ ap fitsPaper (found .found .given .1)))
 
 returns-2 : tie.Need-returns-2
-returns-2 c = sym (same-unfit _ _ (c .before .before .before .before .pre) (sym (c .before .before .fits-in-small-atom .ensures) ∙ ap fitsPaper (c .enum-told .given .1)))
+returns-2 c =
+    let (start, fits-in-small-atom) : tie.Start × tie.After-fits-in-small-atom = search in
+    sym (same-unfit _ _ (start .pre) (sym (fits-in-small-atom .fits-in-small-atom .ensures) ∙ ap fitsPaper (c .enum-told .given .1)))
 
 pub same-small-spec : {M : Type 1} → statement M
 same-small-spec =

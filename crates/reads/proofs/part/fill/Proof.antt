@@ -7,18 +7,21 @@ use Rattle.reads.proofs.part.fill.Tie as tie
 
 returns : tie.Need-returns
 returns c =
-    let e = sym (c .before .before .before .before .filled .ensures .0) ∙ ap atomPaper (c .enum-told .given .1) in
-    (simp e, c .before .before .before .before .filled .ensures .1)
+    let filled : tie.After-filled = search in
+    let e = sym (filled .filled .ensures .0) ∙ ap atomPaper (c .enum-told .given .1) in
+    (simp e, filled .filled .ensures .1)
 
 returns-2 : tie.Need-returns-2
 returns-2 c =
-    let e = sym (c .before .before .before .before .filled .ensures .0) ∙ ap atomPaper (c .enum-told2 .given .1) in
-    (simp e, c .before .before .before .before .filled .ensures .1)
+    let filled : tie.After-filled = search in
+    let e = sym (filled .filled .ensures .0) ∙ ap atomPaper (c .enum-told2 .given .1) in
+    (simp e, filled .filled .ensures .1)
 
 returns-3 : tie.Need-returns-3
 returns-3 c =
-    let e = sym (c .before .before .before .before .before .filled .ensures .0) ∙ ap atomPaper (c .before .part .given .1) in
-    (simp e, c .before .before .before .before .before .filled .ensures .1)
+    let (filled, part) : tie.After-filled × tie.After-part = search in
+    let e = sym (filled .filled .ensures .0) ∙ ap atomPaper (part .part .given .1) in
+    (simp e, filled .filled .ensures .1)
 
 pub fill-spec : {M : Type 1} → statement M
 fill-spec =

@@ -8,7 +8,9 @@ use Rattle.recorded.proofs.calls.of_nodes.Statement.{statement}
 use Rattle.recorded.proofs.calls.of_nodes.Tie as tie
 
 slice-aggregate-clvm-new-concat : tie.Need-slice-aggregate-clvm-new-concat
-slice-aggregate-clvm-new-concat c = sym (length-take-le (c .before .before .before .before .before .before .before .before .before .before .args .n) (now (c .before .before .before .before .before .before .before .before .before .before .args .nodes)) (omega arith))
+slice-aggregate-clvm-new-concat c =
+    let start : tie.Start = search in
+    sym (length-take-le (start .args .n) (now (start .args .nodes)) (omega arith))
 
 clvm-new-concat-requires : tie.Need-clvm-new-concat-requires
 clvm-new-concat-requires c κs = search needs

@@ -10,7 +10,9 @@ slice-relend-prefix-clvm-atom : tie.Need-slice-relend-prefix-clvm-atom
 slice-relend-prefix-clvm-atom c = search needs
 
 slice-aggregate-clvm-atom : tie.Need-slice-aggregate-clvm-atom
-slice-aggregate-clvm-atom c = sym (length-take-le (c .before .before .before .before .before .args .size) (now (c .before .before .before .before .before .args .scratch)) (c .before .before .before .before .before .pre))
+slice-aggregate-clvm-atom c =
+    let start : tie.Start = search in
+    sym (length-take-le (start .args .size) (now (start .args .scratch)) (start .pre))
 
 clvm-atom-requires : tie.Need-clvm-atom-requires
 clvm-atom-requires c κs = search needs

@@ -25,31 +25,41 @@ slice-relend-prefix-within : tie.Need-slice-relend-prefix-within
 slice-relend-prefix-within c = search needs
 
 slice-aggregate-within : tie.Need-slice-aggregate-within
-slice-aggregate-within c = sym (length-take-le (c .before .before .before .before .before .lent .result) (now (c .before .before .before .before .before .before .before .before .before .before .before .before .args .bytes)) (c .before .before .before .before .before .lent .ensures))
+slice-aggregate-within c =
+    let (start, lent) : tie.Start × tie.After-lent = search in
+    sym (length-take-le (lent .lent .result) (now (start .args .bytes)) (lent .lent .ensures))
 
 slice-relend-prefix-within-2 : tie.Need-slice-relend-prefix-within-2
 slice-relend-prefix-within-2 c = search needs
 
 slice-aggregate-within-2 : tie.Need-slice-aggregate-within-2
-slice-aggregate-within-2 c = sym (length-take-le (c .before .before .before .before .before .lent2 .result) (now (c .before .before .before .before .before .before .before .before .before .before .before .before .before .args .starts)) (c .before .before .before .before .before .lent2 .ensures))
+slice-aggregate-within-2 c =
+    let (start, lent2) : tie.Start × tie.After-lent2 = search in
+    sym (length-take-le (lent2 .lent2 .result) (now (start .args .starts)) (lent2 .lent2 .ensures))
 
 slice-relend-prefix-within-3 : tie.Need-slice-relend-prefix-within-3
 slice-relend-prefix-within-3 c = search needs
 
 slice-aggregate-within-3 : tie.Need-slice-aggregate-within-3
-slice-aggregate-within-3 c = sym (length-take-le (c .before .before .before .before .before .lent3 .result) (now (c .before .before .before .before .before .before .before .before .before .before .before .before .before .before .args .ends)) (c .before .before .before .before .before .lent3 .ensures))
+slice-aggregate-within-3 c =
+    let (start, lent3) : tie.Start × tie.After-lent3 = search in
+    sym (length-take-le (lent3 .lent3 .result) (now (start .args .ends)) (lent3 .lent3 .ensures))
 
 slice-relend-prefix-within-4 : tie.Need-slice-relend-prefix-within-4
 slice-relend-prefix-within-4 c = search needs
 
 slice-aggregate-within-4 : tie.Need-slice-aggregate-within-4
-slice-aggregate-within-4 c = sym (length-take-le (c .before .before .before .before .before .lent4 .result) (now (c .before .before .before .before .before .before .before .before .before .before .before .before .before .before .before .args .firsts)) (c .before .before .before .before .before .lent4 .ensures))
+slice-aggregate-within-4 c =
+    let (start, lent4) : tie.Start × tie.After-lent4 = search in
+    sym (length-take-le (lent4 .lent4 .result) (now (start .args .firsts)) (lent4 .lent4 .ensures))
 
 slice-relend-prefix-within-5 : tie.Need-slice-relend-prefix-within-5
 slice-relend-prefix-within-5 c = search needs
 
 slice-aggregate-within-5 : tie.Need-slice-aggregate-within-5
-slice-aggregate-within-5 c = sym (length-take-le (c .before .before .before .before .before .lent5 .result) (now (c .before .before .before .before .before .before .before .before .before .before .before .before .before .before .before .before .args .rests)) (c .before .before .before .before .before .lent5 .ensures))
+slice-aggregate-within-5 c =
+    let (start, lent5) : tie.Start × tie.After-lent5 = search in
+    sym (length-take-le (lent5 .lent5 .result) (now (start .args .rests)) (lent5 .lent5 .ensures))
 
 within-requires : tie.Need-within-requires
 within-requires c κs = search needs

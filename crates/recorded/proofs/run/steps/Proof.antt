@@ -21,16 +21,16 @@ step-requires c κs = search needs
 
 add-i : tie.Need-add-i Inv-loop μ-loop
 add-i c =
-    let l = c .before .before .before .before .before .before .before .before .before .before .before .before .before .before .before .before .before .loop in
-    let s = c .before .before .before .before .before .before .before .before .before .before .before .before .before .before .before .before .before .before .before .before .before .before .before .before in
-    let h : l .i < s .args .n = c .before .before .before .before .before .before .before .before .before .before .before .before .before .before .before .before .loop-test .taken in
+    let (s, loop, in-loop) : tie.Start Inv-loop μ-loop × tie.At-loop Inv-loop μ-loop × tie.In-loop Inv-loop μ-loop = search in
+    let l = loop .loop in
+    let h : l .i < s .args .n = in-loop .loop-test .taken in
     let f : l .i + 1 < 2 ^ 64 = omega (arith, h, s .fits .n .fits) in record { fits = f }
 
 loop-less : tie.Need-loop-less Inv-loop μ-loop
 loop-less c =
-    let l = c .before .before .before .before .before .before .before .before .before .before .before .before .before .before .before .before .before .loop in
-    let s = c .before .before .before .before .before .before .before .before .before .before .before .before .before .before .before .before .before .before .before .before .before .before .before .before in
-    let h : l .i < s .args .n = c .before .before .before .before .before .before .before .before .before .before .before .before .before .before .before .before .loop-test .taken in
+    let (s, loop, in-loop) : tie.Start Inv-loop μ-loop × tie.At-loop Inv-loop μ-loop × tie.In-loop Inv-loop μ-loop = search in
+    let l = loop .loop in
+    let h : l .i < s .args .n = in-loop .loop-test .taken in
     let f : s .args .n - (l .i + 1) < s .args .n - l .i = omega (arith, h) in f
 
 loop-again : tie.Need-loop-again Inv-loop μ-loop

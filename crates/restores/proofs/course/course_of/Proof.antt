@@ -22,32 +22,46 @@ lists-sound-requires : tie.Need-lists-sound-requires
 lists-sound-requires c κs = search needs
 
 usable-requires : tie.Need-usable-requires
-usable-requires c κs = omega (arith, lists-lent _ _ _ _ _ _ (sym (c .before .lists-sound .ensures) ∙ c .if1 .taken))
+usable-requires c κs =
+    let lists-sound : tie.After-lists-sound = search in
+    omega (arith, lists-lent _ _ _ _ _ _ (sym (lists-sound .lists-sound .ensures) ∙ c .if1 .taken))
 
 savings-requires : tie.Need-savings-requires
 savings-requires c κs =
-    let s = c .before .before .before .before .before .before .before .before .before .args in
-    let u = usable→ (s .k) (s .a) (atomSlots (s .starts .now) (s .ends .now)) (pairSlots (s .firsts .now) (s .rests .now)) (sym (c .before .usable .ensures) ∙ c .if2 .taken) in
-    (lists-lent _ _ _ _ _ _ (sym (c .before .before .before .lists-sound .ensures) ∙ c .before .before .if1 .taken) .slots .atoms .limits, (u .bytes, u .atoms, u .pairs))
+    let (start, lists-sound, then1, usable) : tie.Start × tie.After-lists-sound × tie.Then1 × tie.After-usable = search in
+    let s = start .args in
+    let u = usable→ (s .k) (s .a) (atomSlots (s .starts .now) (s .ends .now)) (pairSlots (s .firsts .now) (s .rests .now)) (sym (usable .usable .ensures) ∙ c .if2 .taken) in
+    (lists-lent _ _ _ _ _ _ (sym (lists-sound .lists-sound .ensures) ∙ then1 .if1 .taken) .slots .atoms .limits, (u .bytes, u .atoms, u .pairs))
 
 returns : tie.Need-returns
 unfolding course need
-returns c = simp (← (c .before .before .before .before .before .lists-sound .ensures), c .before .before .before .before .if1 .taken, ← (c .before .before .before .usable .ensures), c .before .before .if2 .taken, lt-ltb _ _ (rw (c .before .savings .ensures) at (c .if3 .taken)))
+returns c =
+    let (lists-sound, then1, usable, then2, at-savings) : tie.After-lists-sound × tie.Then1 × tie.After-usable × tie.Then2 × tie.After-savings = search in
+    simp (← (lists-sound .lists-sound .ensures), then1 .if1 .taken, ← (usable .usable .ensures), then2 .if2 .taken, lt-ltb _ _ (rw (at-savings .savings .ensures) at (c .if3 .taken)))
 
 node-course-requires : tie.Need-node-course-requires
-node-course-requires c κs = both _ _ (sym (c .before .before .before .before .before .lists-sound .ensures) ∙ c .before .before .before .before .if1 .taken) .0
+node-course-requires c κs =
+    let (lists-sound, then1) : tie.After-lists-sound × tie.Then1 = search in
+    both _ _ (sym (lists-sound .lists-sound .ensures) ∙ then1 .if1 .taken) .0
 
 returns-2 : tie.Need-returns-2
 unfolding course need
-returns-2 c = simp (← (c .before .before .before .before .before .before .lists-sound .ensures), c .before .before .before .before .before .if1 .taken, ← (c .before .before .before .before .usable .ensures), c .before .before .before .if2 .taken, le-ltb _ _ (rw (c .before .before .savings .ensures) at (c .before .if3 .left)), c .node-course .ensures)
+returns-2 c =
+    let (lists-sound, then1, usable, then2, at-savings, else3) :
+    tie.After-lists-sound × tie.Then1 × tie.After-usable × tie.Then2 × tie.After-savings × tie.Else3 = search in
+    simp (← (lists-sound .lists-sound .ensures), then1 .if1 .taken, ← (usable .usable .ensures), then2 .if2 .taken, le-ltb _ _ (rw (at-savings .savings .ensures) at (else3 .if3 .left)), c .node-course .ensures)
 
 returns-3 : tie.Need-returns-3
 unfolding course need
-returns-3 c = simp (← (c .before .before .before .lists-sound .ensures), c .before .before .if1 .taken, ← (c .before .usable .ensures), c .if2 .left)
+returns-3 c =
+    let (lists-sound, then1, usable) : tie.After-lists-sound × tie.Then1 × tie.After-usable = search in
+    simp (← (lists-sound .lists-sound .ensures), then1 .if1 .taken, ← (usable .usable .ensures), c .if2 .left)
 
 returns-4 : tie.Need-returns-4
 unfolding course need
-returns-4 c = simp (← (c .before .lists-sound .ensures), c .if1 .left)
+returns-4 c =
+    let lists-sound : tie.After-lists-sound = search in
+    simp (← (lists-sound .lists-sound .ensures), c .if1 .left)
 
 pub course-of-spec : {M : Type 1} → statement M
 course-of-spec =

@@ -24,45 +24,52 @@ enum-known-found c = search needs
 
 returns : tie.Need-returns
 returns c =
+    let (start, node) : tie.Start × tie.After-node = search in
     λ x h.
-    let s = c .before .before .before .before .before .before .args in
-    no-buffer (s .a) (pairSlots (s .firsts .now) (s .rests .now)) x (c .before .node .result) (c .match .keys2)
-    (c .before .node .ensures ∙ node-visits (s .a) (atomSlots (s .starts .now) (s .ends .now)) (pairSlots (s .firsts .now) (s .rests .now)) (s .n) (c .before .before .before .before .before .before .pre) ∙ ap (visited (s .a) (pairSlots (s .firsts .now) (s .rests .now))) h)
+    let s = start .args in
+    no-buffer (s .a) (pairSlots (s .firsts .now) (s .rests .now)) x (node .node .result) (c .match .keys2)
+    (node .node .ensures ∙ node-visits (s .a) (atomSlots (s .starts .now) (s .ends .now)) (pairSlots (s .firsts .now) (s .rests .now)) (s .n) (start .pre) ∙ ap (visited (s .a) (pairSlots (s .firsts .now) (s .rests .now))) h)
 
 sub-if1 : tie.Need-sub-if1
 sub-if1 c =
-    let s = c .before .before .before .before .before .before .before .before .args in
-    omega (arith, buffer-in (s .a) (atomSlots (s .starts .now) (s .ends .now)) (pairSlots (s .firsts .now) (s .rests .now)) (s .n) _ _ (c .before .before .before .before .before .before .before .before .pre) (sym (ap visitorPaper (c .before .found .given .1)) ∙ c .before .before .before .node .ensures))
+    let (start, node, found) : tie.Start × tie.After-node × tie.After-found = search in
+    let s = start .args in
+    omega (arith, buffer-in (s .a) (atomSlots (s .starts .now) (s .ends .now)) (pairSlots (s .firsts .now) (s .rests .now)) (s .n) _ _ (start .pre) (sym (ap visitorPaper (found .found .given .1)) ∙ node .node .ensures))
 
 returns-2 : tie.Need-returns-2
 unfolding need
 returns-2 c =
+    let (start, node, found) : tie.Start × tie.After-node × tie.After-found = search in
     λ x h.
-    let s = c .before .before .before .before .before .before .before .before .before .args in
+    let s = start .args in
     let p = pairSlots (s .firsts .now) (s .rests .now) in
-    let b = buffer-of (s .a) p _ _ x (sym (ap visitorPaper (c .before .before .found .given .1)) ∙ c .before .before .before .before .node .ensures ∙ node-visits (s .a) (atomSlots (s .starts .now) (s .ends .now)) p (s .n) (c .before .before .before .before .before .before .before .before .before .pre) ∙ ap (visited (s .a) p) h) in
+    let b = buffer-of (s .a) p _ _ x (sym (ap visitorPaper (found .found .given .1)) ∙ node .node .ensures ∙ node-visits (s .a) (atomSlots (s .starts .now) (s .ends .now)) p (s .n) (start .pre) ∙ ap (visited (s .a) p) h) in
     simp (b .1, lt-ltb _ _ (c .if1 .taken))
 
 add-if2 : tie.Need-add-if2
-add-if2 c = omega (arith, slots-lent _ _ _ _ _ (c .before .before .before .before .before .before .before .before .before .before .pre))
+add-if2 c =
+    let start : tie.Start = search in
+    omega (arith, slots-lent _ _ _ _ _ (start .pre))
 
 returns-3 : tie.Need-returns-3
 unfolding need
 returns-3 c =
+    let (start, node, found, else1) : tie.Start × tie.After-node × tie.After-found × tie.Else1 = search in
     λ x h.
-    let s = c .before .before .before .before .before .before .before .before .before .before .before .before .args in
+    let s = start .args in
     let p = pairSlots (s .firsts .now) (s .rests .now) in
-    let b = buffer-of (s .a) p _ _ x (sym (ap visitorPaper (c .before .before .before .before .before .found .given .1)) ∙ c .before .before .before .before .before .before .before .node .ensures ∙ node-visits (s .a) (atomSlots (s .starts .now) (s .ends .now)) p (s .n) (c .before .before .before .before .before .before .before .before .before .before .before .before .pre) ∙ ap (visited (s .a) p) h) in
-    simp (b .1, le-ltb _ _ (c .before .before .before .if1 .left), lt-leb _ _ (c .if2 .taken))
+    let b = buffer-of (s .a) p _ _ x (sym (ap visitorPaper (found .found .given .1)) ∙ node .node .ensures ∙ node-visits (s .a) (atomSlots (s .starts .now) (s .ends .now)) p (s .n) (start .pre) ∙ ap (visited (s .a) p) h) in
+    simp (b .1, le-ltb _ _ (else1 .if1 .left), lt-leb _ _ (c .if2 .taken))
 
 returns-4 : tie.Need-returns-4
 unfolding need
 returns-4 c =
+    let (start, node, found, else1) : tie.Start × tie.After-node × tie.After-found × tie.Else1 = search in
     λ x h.
-    let s = c .before .before .before .before .before .before .before .before .before .before .before .before .args in
+    let s = start .args in
     let p = pairSlots (s .firsts .now) (s .rests .now) in
-    let b = buffer-of (s .a) p _ _ x (sym (ap visitorPaper (c .before .before .before .before .before .found .given .1)) ∙ c .before .before .before .before .before .before .before .node .ensures ∙ node-visits (s .a) (atomSlots (s .starts .now) (s .ends .now)) p (s .n) (c .before .before .before .before .before .before .before .before .before .before .before .before .pre) ∙ ap (visited (s .a) p) h) in
-    simp (b .1, le-ltb _ _ (c .before .before .before .if1 .left), le-leb _ _ (c .if2 .left))
+    let b = buffer-of (s .a) p _ _ x (sym (ap visitorPaper (found .found .given .1)) ∙ node .node .ensures ∙ node-visits (s .a) (atomSlots (s .starts .now) (s .ends .now)) p (s .n) (start .pre) ∙ ap (visited (s .a) p) h) in
+    simp (b .1, le-ltb _ _ (else1 .if1 .left), le-leb _ _ (c .if2 .left))
 
 pub new-course-spec : {M : Type 1} → statement M
 new-course-spec =

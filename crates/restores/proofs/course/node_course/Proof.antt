@@ -14,7 +14,9 @@ use Rattle.reads.proofs.arg.arg.Reads as arg-reads
 use Rattle.restores.proofs.course.new_course.Reads as new-course-reads
 
 arg-requires : tie.Need-arg-requires
-arg-requires c κs = omega (arith, slots-lent _ _ _ _ _ (c .before .before .before .before .pre))
+arg-requires c κs =
+    let start : tie.Start = search in
+    omega (arith, slots-lent _ _ _ _ _ (start .pre))
 
 enum-known-found : tie.Need-enum-known-found
 enum-known-found c = search needs
@@ -26,39 +28,57 @@ enum-known-found-2 : tie.Need-enum-known-found-2
 enum-known-found-2 c = search needs
 
 returns : tie.Need-returns
-returns c = simp (← (c .before .before .before .before .before .arg .ensures), c .before .before .before .found2 .given .1, lt-ltb _ _ (c .if1 .taken))
+returns c =
+    let (arg, found2) : tie.After-arg × tie.After-found2 = search in
+    simp (← (arg .arg .ensures), found2 .found2 .given .1, lt-ltb _ _ (c .if1 .taken))
 
 new-course-requires : tie.Need-new-course-requires
-new-course-requires c κs = c .before .before .before .before .before .before .before .before .before .before .pre
+new-course-requires c κs =
+    let start : tie.Start = search in
+    start .pre
 
 enum-known-found-3 : tie.Need-enum-known-found-3
 enum-known-found-3 c = search needs
 
 returns-2 : tie.Need-returns-2
-returns-2 c = simp (← (c .before .before .before .before .before .arg .ensures), c .before .before .before .found3 .given .1, lt-ltb _ _ (c .if2 .taken))
+returns-2 c =
+    let (arg, found3) : tie.After-arg × tie.After-found3 = search in
+    simp (← (arg .arg .ensures), found3 .found3 .given .1, lt-ltb _ _ (c .if2 .taken))
 
 returns-3 : tie.Need-returns-3
 unfolding need
-returns-3 c = simp (← (c .before .before .before .before .before .before .before .before .before .arg .ensures), c .before .before .before .before .before .before .before .found3 .given .1, le-ltb _ _ (c .before .before .before .before .if2 .left), lt-ltb _ _ (c .before .before .if3 .taken), le-leb _ _ (c .if4 .taken))
+returns-3 c =
+    let (arg, found3, else2, then3) : tie.After-arg × tie.After-found3 × tie.Else2 × tie.Then3 = search in
+    simp (← (arg .arg .ensures), found3 .found3 .given .1, le-ltb _ _ (else2 .if2 .left), lt-ltb _ _ (then3 .if3 .taken), le-leb _ _ (c .if4 .taken))
 
 returns-4 : tie.Need-returns-4
 unfolding need
-returns-4 c = simp (← (c .before .before .before .before .before .before .before .before .before .arg .ensures), c .before .before .before .before .before .before .before .found3 .given .1, le-ltb _ _ (c .before .before .before .before .if2 .left), lt-ltb _ _ (c .before .before .if3 .taken), lt-leb _ _ (c .if4 .left))
+returns-4 c =
+    let (arg, found3, else2, then3) : tie.After-arg × tie.After-found3 × tie.Else2 × tie.Then3 = search in
+    simp (← (arg .arg .ensures), found3 .found3 .given .1, le-ltb _ _ (else2 .if2 .left), lt-ltb _ _ (then3 .if3 .taken), lt-leb _ _ (c .if4 .left))
 
 new-course-requires-2 : tie.Need-new-course-requires-2
 new-course-requires-2 c κs = search needs
 
 returns-5 : tie.Need-returns-5
-returns-5 c = simp (← (c .before .before .before .arg .ensures), c .before .found .given .1)
+returns-5 c =
+    let (arg, found) : tie.After-arg × tie.After-found = search in
+    simp (← (arg .arg .ensures), found .found .given .1)
 
 returns-6 : tie.Need-returns-6
-returns-6 c = simp (← (c .before .before .arg .ensures), c .enum-told .given .1)
+returns-6 c =
+    let arg : tie.After-arg = search in
+    simp (← (arg .arg .ensures), c .enum-told .given .1)
 
 returns-7 : tie.Need-returns-7
-returns-7 c = simp (← (c .before .before .before .before .before .before .arg .ensures), c .before .before .before .before .found2 .given .1, le-ltb _ _ (c .before .if1 .left)) (c .new-course .ensures _ (sym (c .before .before .before .before .before .before .arg .ensures) ∙ ap argPaper (c .before .before .before .before .found2 .given .1)))
+returns-7 c =
+    let (arg, found2, else1) : tie.After-arg × tie.After-found2 × tie.Else1 = search in
+    simp (← (arg .arg .ensures), found2 .found2 .given .1, le-ltb _ _ (else1 .if1 .left)) (c .new-course .ensures _ (sym (arg .arg .ensures) ∙ ap argPaper (found2 .found2 .given .1)))
 
 returns-8 : tie.Need-returns-8
-returns-8 c = simp (← (c .before .before .before .before .before .before .before .before .arg .ensures), c .before .before .before .before .before .before .found3 .given .1, le-ltb _ _ (c .before .before .before .if2 .left), le-ltb _ _ (c .before .if3 .left)) (c .new-course2 .ensures _ (sym (c .before .before .before .before .before .before .before .before .arg .ensures) ∙ ap argPaper (c .before .before .before .before .before .before .found3 .given .1)))
+returns-8 c =
+    let (arg, found3, else2, else3) : tie.After-arg × tie.After-found3 × tie.Else2 × tie.Else3 = search in
+    simp (← (arg .arg .ensures), found3 .found3 .given .1, le-ltb _ _ (else2 .if2 .left), le-ltb _ _ (else3 .if3 .left)) (c .new-course2 .ensures _ (sym (arg .arg .ensures) ∙ ap argPaper (found3 .found3 .given .1)))
 
 pub node-course-spec : {M : Type 1} → statement M
 node-course-spec =

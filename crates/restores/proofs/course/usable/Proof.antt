@@ -16,22 +16,32 @@ within-requires : tie.Need-within-requires
 within-requires c κs = search needs
 
 atom-slots-sound-requires : tie.Need-atom-slots-sound-requires
-atom-slots-sound-requires c κs = omega (arith, within-tells (c .before .before .before .before .before .before .before .args .k) (c .before .before .before .before .before .before .before .args .a .used) (sym (c .before .within .ensures) ∙ c .if1 .taken))
+atom-slots-sound-requires c κs =
+    let (start, within) : tie.Start × tie.After-within = search in
+    omega (arith, within-tells (start .args .k) (start .args .a .used) (sym (within .within .ensures) ∙ c .if1 .taken))
 
 pair-slots-sound-requires : tie.Need-pair-slots-sound-requires
-pair-slots-sound-requires c κs = omega (arith, within-tells (c .before .before .before .before .before .before .before .before .before .args .k) (c .before .before .before .before .before .before .before .before .before .args .a .used) (sym (c .before .before .before .within .ensures) ∙ c .before .before .if1 .taken))
+pair-slots-sound-requires c κs =
+    let (start, within, then1) : tie.Start × tie.After-within × tie.Then1 = search in
+    omega (arith, within-tells (start .args .k) (start .args .a .used) (sym (within .within .ensures) ∙ then1 .if1 .taken))
 
 returns : tie.Need-returns
 unfolding usable
-returns c = simp (c .pair-slots-sound .ensures, ← (c .before .before .atom-slots-sound .ensures), c .before .if2 .taken, ← (c .before .before .before .before .within .ensures), c .before .before .before .if1 .taken)
+returns c =
+    let (within, then1, atom-slots-sound, then2) : tie.After-within × tie.Then1 × tie.After-atom-slots-sound × tie.Then2 = search in
+    simp (c .pair-slots-sound .ensures, ← (atom-slots-sound .atom-slots-sound .ensures), then2 .if2 .taken, ← (within .within .ensures), then1 .if1 .taken)
 
 returns-2 : tie.Need-returns-2
 unfolding usable
-returns-2 c = simp (← (c .before .atom-slots-sound .ensures), c .if2 .left, ← (c .before .before .before .within .ensures), c .before .before .if1 .taken)
+returns-2 c =
+    let (within, then1, atom-slots-sound) : tie.After-within × tie.Then1 × tie.After-atom-slots-sound = search in
+    simp (← (atom-slots-sound .atom-slots-sound .ensures), c .if2 .left, ← (within .within .ensures), then1 .if1 .taken)
 
 returns-3 : tie.Need-returns-3
 unfolding usable
-returns-3 c = simp (← (c .before .within .ensures), c .if1 .left)
+returns-3 c =
+    let within : tie.After-within = search in
+    simp (← (within .within .ensures), c .if1 .left)
 
 pub usable-spec : {M : Type 1} → statement M
 usable-spec =

@@ -8,7 +8,9 @@ shared-slice-read-result : tie.Need-shared-slice-read-result
 shared-slice-read-result c = search needs
 
 returns : tie.Need-returns
-returns c = simp (eq-eqb _ _ (c .before .if1 .taken))
+returns c =
+    let then1 : tie.Then1 = search in
+    simp (eq-eqb _ _ (then1 .if1 .taken))
 
 returns-2 : tie.Need-returns-2
 returns-2 c = simp (ne-eqb _ _ (c .if1 .left))

@@ -12,8 +12,9 @@ alone-requires c κs = search needs
 
 returns : tie.Need-returns
 returns c =
-    let v = c .before .before .before .args .v .now in
-    let h = sym (c .before .alone .ensures) ∙ c .if1 .taken in
+    let (start, alone) : tie.Start × tie.After-alone = search in
+    let v = start .args .v .now in
+    let h = sym (alone .alone .ensures) ∙ c .if1 .taken in
     sym (ap length (alone-form v h) ∙ alone-length v h)
 
 extra-for-requires : tie.Need-extra-for-requires
@@ -27,8 +28,9 @@ add-result-2 c = search needs
 
 returns-2 : tie.Need-returns-2
 returns-2 c =
-    let v = c .before .before .before .before .args .v .now in
-    omega (arith, behind-length v (sym (c .before .before .alone .ensures) ∙ c .before .if1 .left), c .extra-for .ensures .0)
+    let (start, alone, else1) : tie.Start × tie.After-alone × tie.Else1 = search in
+    let v = start .args .v .now in
+    omega (arith, behind-length v (sym (alone .alone .ensures) ∙ else1 .if1 .left), c .extra-for .ensures .0)
 
 pub form-len-spec : {M : Type 1} → statement M
 form-len-spec =

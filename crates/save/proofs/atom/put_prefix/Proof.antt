@@ -7,11 +7,19 @@ use borrow.Author.Needs.{needs}
 use Rattle.save.proofs.atom.put_prefix.Statement.{statement}
 use Rattle.save.proofs.atom.put_prefix.Tie as tie
 
-room : (c : tie.After-mark) → c .before .before .before .before .before .before .before .before .args .at + (1 + c .before .before .before .before .before .before .extra-for .result) ≤ length (c .before .before .before .before .before .before .before .before .args .file .now)
-room c = omega (arith, c .before .before .before .before .before .before .extra-for .ensures .0, c .before .before .before .before .before .before .before .before .pre .1)
+room : (c : tie.After-mark) →
+    let (start, extra-for) : tie.Start × tie.After-extra-for = search in
+    start .args .at + (1 + extra-for .extra-for .result) ≤ length (start .args .file .now)
+room c =
+    let (start, extra-for) : tie.Start × tie.After-extra-for = search in
+    omega (arith, extra-for .extra-for .ensures .0, start .pre .1)
 
-fits : (c : tie.After-mark) → Marks (c .before .before .before .before .before .before .before .before .args .len) (c .before .before .before .before .before .before .extra-for .result)
-fits c = rw (c .before .before .before .before .before .before .extra-for .ensures .0) (mark-fits (c .before .before .before .before .before .before .before .before .args .len) (c .before .before .before .before .before .before .before .before .pre .0))
+fits : (c : tie.After-extra-for) →
+    let start : tie.Start = search in
+    Marks (start .args .len) (c .extra-for .result)
+fits c =
+    let start : tie.Start = search in
+    rw (c .extra-for .ensures .0) (mark-fits (start .args .len) (start .pre .0))
 
 extra-for-requires : tie.Need-extra-for-requires
 extra-for-requires c κs = search needs
@@ -38,12 +46,13 @@ mark-requires : tie.Need-mark-requires
 mark-requires c κs = search needs
 
 cast-file : tie.Need-cast-file
-cast-file c = omega (arith, fits c, c .mark .ensures)
+cast-file c = omega (arith, fits (search), c .mark .ensures)
 
 add-file : tie.Need-add-file
 add-file c =
-    let a = c .before .before .before .before .before .before .before .before .args in
-    omega (arith, byte-fits (a .file .now) (c .before .before .before .before .put-be .last .0) (a .at) (c .before .before .before .before .before .before .extra-for .result) (a .len) (c .mark .result) (room c) (c .before .before .before .before .put-be .ensures) (fits c) (c .mark .ensures))
+    let (start, extra-for, put-be) : tie.Start × tie.After-extra-for × tie.After-put-be = search in
+    let a = start .args in
+    omega (arith, byte-fits (a .file .now) (put-be .put-be .last .0) (a .at) (extra-for .extra-for .result) (a .len) (c .mark .result) (room c) (put-be .put-be .ensures) (fits extra-for) (c .mark .ensures))
 
 slice-write-file : tie.Need-slice-write-file
 slice-write-file c = search needs
@@ -59,9 +68,10 @@ same-length c = search needs
 
 returns : tie.Need-returns
 returns c =
-    let a = c .before .before .before .before .before .before .before .before .args in
-    let k = c .before .before .before .before .before .before .extra-for .ensures .0 in (
-      rw (← k) (marked (a .file .now) (c .before .before .before .before .put-be .last .0) (a .at) (c .before .before .before .before .before .before .extra-for .result) (a .len) (c .mark .result) (room c) (c .before .before .before .before .put-be .ensures) (fits c) (c .mark .ensures)),
+    let (start, extra-for, put-be) : tie.Start × tie.After-extra-for × tie.After-put-be = search in
+    let a = start .args in
+    let k = extra-for .extra-for .ensures .0 in (
+      rw (← k) (marked (a .file .now) (put-be .put-be .last .0) (a .at) (extra-for .extra-for .result) (a .len) (c .mark .result) (room c) (put-be .put-be .ensures) (fits extra-for) (c .mark .ensures)),
       omega (arith, k),
     )
 

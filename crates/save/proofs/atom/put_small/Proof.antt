@@ -13,8 +13,12 @@ use Rattle.save.proofs.atom.put_small.Statement.{statement}
 use Rattle.save.proofs.atom.put_small.Tie as tie
 
 -- what is lent of the four bytes are the atom's
-part : (c : tie.After-put-form-arg2) → let from = 4 - c .before .before .before .len-for-value .result in take (4 - from) (drop from (c .before .before .before .before .before .put-be .last .0)) ≡ smallBytes (c .before .before .before .before .before .before .before .before .args .v)
-part c = simp (c .before .before .before .len-for-value .ensures, c .before .before .before .before .before .put-be .ensures) (last-part (c .before .before .before .before .before .before .before .before .args .v) _ (c .before .before .before .before .before .before .before .before .pre .0))
+part : (c : tie.After-len-for-value) →
+    let (start, put-be) : tie.Start × tie.After-put-be = search in
+    let from = 4 - c .len-for-value .result in take (4 - from) (drop from (put-be .put-be .last .0)) ≡ smallBytes (start .args .v)
+part c =
+    let (start, put-be) : tie.Start × tie.After-put-be = search in
+    simp (c .len-for-value .ensures, put-be .put-be .ensures) (last-part (start .args .v) _ (start .pre .0))
 
 slice-aggregate-put-be : tie.Need-slice-aggregate-put-be
 slice-aggregate-put-be c = search needs
@@ -26,7 +30,9 @@ len-for-value-requires : tie.Need-len-for-value-requires
 len-for-value-requires c κs = search needs
 
 sub-from : tie.Need-sub-from
-sub-from c = omega (arith, small-length _ (c .before .before .before .before .before .pre .0), c .len-for-value .ensures)
+sub-from c =
+    let start : tie.Start = search in
+    omega (arith, small-length _ (start .pre .0), c .len-for-value .ensures)
 
 sub-put-form : tie.Need-sub-put-form
 sub-put-form c = search needs
@@ -39,18 +45,20 @@ part-put-form-end c = search needs
 
 put-form-requires : tie.Need-put-form-requires
 put-form-requires c κs =
-    let p = part c in
-    let n = small-length (c .before .before .before .before .before .before .before .before .args .v) (c .before .before .before .before .before .before .before .before .pre .0) in
-    rw p (omega (arith, length-be (lenFor (c .before .before .before .before .before .before .before .before .args .v)) (c .before .before .before .before .before .before .before .before .args .v)), c .before .before .before .before .before .before .before .before .pre .1)
+    let start : tie.Start = search in
+    let p = part (search) in
+    let n = small-length (start .args .v) (start .pre .0) in
+    rw p (omega (arith, length-be (lenFor (start .args .v)) (start .args .v)), start .pre .1)
 
 same-length : tie.Need-same-length
 same-length c = search needs
 
 returns : tie.Need-returns
 returns c =
-    let a = c .before .before .before .before .before .before .before .before .before .before .before .args in
-    let p = part (c .before .before .before) in
-    (c .before .before .put-form .ensures .0 ∙ ap (λ w. over (a .file .now) (a .at) (shortestAtom w)) p, c .before .before .put-form .ensures .1 ∙ ap (λ w. a .at + length (shortestAtom w)) p)
+    let (start, put-form) : tie.Start × tie.After-put-form = search in
+    let a = start .args in
+    let p = part (search) in
+    (put-form .put-form .ensures .0 ∙ ap (λ w. over (a .file .now) (a .at) (shortestAtom w)) p, put-form .put-form .ensures .1 ∙ ap (λ w. a .at + length (shortestAtom w)) p)
 
 pub put-small-spec : {M : Type 1} → statement M
 put-small-spec =

@@ -21,7 +21,9 @@ len-for-value-requires : tie.Need-len-for-value-requires
 len-for-value-requires c κs = search needs
 
 sub-from : tie.Need-sub-from
-sub-from c = omega (arith, small-length _ (c .before .before .before .before .pre), c .len-for-value .ensures)
+sub-from c =
+    let start : tie.Start = search in
+    omega (arith, small-length _ (start .pre), c .len-for-value .ensures)
 
 sub-form-len : tie.Need-sub-form-len
 sub-form-len c = search needs
@@ -37,9 +39,10 @@ form-len-requires c κs = search needs
 
 returns : tie.Need-returns
 returns c =
-    let from = 4 - c .before .before .before .len-for-value .result in
-    let buf = c .before .before .before .before .before .put-be .last .0 in
-    let p : take (4 - from) (drop from buf) ≡ smallBytes (c .before .before .before .before .before .before .before .args .v) = simp (c .before .before .before .len-for-value .ensures, c .before .before .before .before .before .put-be .ensures) (last-part (c .before .before .before .before .before .before .before .args .v) _ (c .before .before .before .before .before .before .before .pre)) in
+    let (start, put-be, len-for-value) : tie.Start × tie.After-put-be × tie.After-len-for-value = search in
+    let from = 4 - len-for-value .len-for-value .result in
+    let buf = put-be .put-be .last .0 in
+    let p : take (4 - from) (drop from buf) ≡ smallBytes (start .args .v) = simp (len-for-value .len-for-value .ensures, put-be .put-be .ensures) (last-part (start .args .v) _ (start .pre)) in
     c .form-len .ensures ∙ ap (λ w. length (shortestAtom w)) p
 
 pub small-len-spec : {M : Type 1} → statement M

@@ -43,15 +43,21 @@ loop-less : tie.Need-loop-less Inv-loop μ-loop
 loop-less c = search needs
 
 loop-again : tie.Need-loop-again Inv-loop μ-loop
-loop-again c = (omega arith, all-more _ (c .before .before .before .before .before .loop .i) (c .before .before .before .before .before .loop .inv .1) (sym (c .before .range-sound .ensures) ∙ c .if1 .taken))
+loop-again c =
+    let (loop, range-sound) : tie.At-loop Inv-loop μ-loop × tie.After-range-sound Inv-loop μ-loop = search in
+    (omega arith, all-more _ (loop .loop .i) (loop .loop .inv .1) (sym (range-sound .range-sound .ensures) ∙ c .if1 .taken))
 
 returns : tie.Need-returns Inv-loop μ-loop
-returns c = sym (all-false _ (c .before .before .before .before .before .before .before .before .args .used .atoms) (c .before .before .before .before .before .loop .i) (c .before .before .before .before .loop-test .taken) (sym (c .before .range-sound .ensures) ∙ c .if1 .left))
+returns c =
+    let (start, loop, in-loop, range-sound) :
+    tie.Start Inv-loop μ-loop × tie.At-loop Inv-loop μ-loop × tie.In-loop Inv-loop μ-loop × tie.After-range-sound Inv-loop μ-loop = search in
+    sym (all-false _ (start .args .used .atoms) (loop .loop .i) (in-loop .loop-test .taken) (sym (range-sound .range-sound .ensures) ∙ c .if1 .left))
 
 returns-2 : tie.Need-returns-2 Inv-loop μ-loop
 returns-2 c =
-    let e : c .before .loop .i ≡ c .before .before .before .before .args .used .atoms = omega arith in
-    rw (← e) (sym (c .before .loop .inv .1))
+    let (start, loop) : tie.Start Inv-loop μ-loop × tie.At-loop Inv-loop μ-loop = search in
+    let e : loop .loop .i ≡ start .args .used .atoms = omega arith in
+    rw (← e) (sym (loop .loop .inv .1))
 
 pub atom-slots-sound-spec : {M : Type 1} → statement M
 atom-slots-sound-spec =

@@ -13,10 +13,14 @@ valid-requires-2 : tie.Need-valid-requires-2
 valid-requires-2 c κs = search needs
 
 returns : tie.Need-returns
-returns c = simp (c .valid2 .ensures, ← (c .before .before .valid .ensures), c .before .if1 .taken)
+returns c =
+    let (valid, then1) : tie.After-valid × tie.Then1 = search in
+    simp (c .valid2 .ensures, ← (valid .valid .ensures), then1 .if1 .taken)
 
 returns-2 : tie.Need-returns-2
-returns-2 c = simp (← (c .before .valid .ensures), c .if1 .left)
+returns-2 c =
+    let valid : tie.After-valid = search in
+    simp (← (valid .valid .ensures), c .if1 .left)
 
 pub children-sound-spec : {M : Type 1} → statement M
 children-sound-spec = tie.close (tie.spec valid-requires valid-requires-2 returns returns-2)

@@ -24,7 +24,8 @@ total-requires c κs = search needs
 returns-3 : tie.Need-returns-3
 unfolding limitsSound
 returns-3 c =
-    let h : 62500000 < atoms (c .before .before .before .before .before .before .args .a) = omega arith in
+    let start : tie.Start = search in
+    let h : 62500000 < atoms (start .args .a) = omega arith in
     search tests
 
 total-requires-2 : tie.Need-total-requires-2
@@ -33,7 +34,8 @@ total-requires-2 c κs = search needs
 returns-4 : tie.Need-returns-4
 unfolding limitsSound
 returns-4 c =
-    let a = c .before .before .before .before .before .before .before .before .args .a in
+    let start : tie.Start = search in
+    let a = start .args .a in
     let h : atoms a ≤ 62500000 = omega arith in
     let k : 62500000 < pairs a = omega arith in
     search tests
@@ -50,10 +52,11 @@ add-result c = search needs
 returns-5 : tie.Need-returns-5
 unfolding limitsSound
 returns-5 c =
-    let a = c .before .before .before .before .before .before .before .before .before .before .args .a in
+    let (start, total, total3) : tie.Start × tie.After-total × tie.After-total3 = search in
+    let a = start .args .a in
     let h : atoms a ≤ 62500000 = omega arith in
     let k : pairs a ≤ 62500000 = omega arith in
-    search (tests, same-leb (c .before .total3 .result) (a .limit + 3 * c .before .before .before .before .before .total .result) (heap a) (a .limit + 3 * atoms a) (λ z. omega arith) (λ z. omega arith))
+    search (tests, same-leb (total3 .total3 .result) (a .limit + 3 * total .total .result) (heap a) (a .limit + 3 * atoms a) (λ z. omega arith) (λ z. omega arith))
 
 pub limits-sound-spec : {M : Type 1} → statement M
 limits-sound-spec =

@@ -10,10 +10,14 @@ slots-sound-requires : tie.Need-slots-sound-requires
 slots-sound-requires c κs = search needs
 
 returns : tie.Need-returns
-returns c = simp (← (c .before .before .slots-sound .ensures), c .before .if1 .taken)
+returns c =
+    let (slots-sound, then1) : tie.After-slots-sound × tie.Then1 = search in
+    simp (← (slots-sound .slots-sound .ensures), then1 .if1 .taken)
 
 returns-2 : tie.Need-returns-2
-returns-2 c = simp (← (c .before .slots-sound .ensures), c .if1 .left)
+returns-2 c =
+    let slots-sound : tie.After-slots-sound = search in
+    simp (← (slots-sound .slots-sound .ensures), c .if1 .left)
 
 pub lists-sound-spec : {M : Type 1} → statement M
 lists-sound-spec = tie.close (tie.spec slots-sound-requires returns returns-2)

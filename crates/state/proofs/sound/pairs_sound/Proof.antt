@@ -14,10 +14,14 @@ fit-requires : tie.Need-fit-requires
 fit-requires c κs = search needs
 
 returns : tie.Need-returns
-returns c = simp (c .fit .ensures, ← (c .before .before .limits-sound .ensures), c .before .if1 .taken)
+returns c =
+    let (limits-sound, then1) : tie.After-limits-sound × tie.Then1 = search in
+    simp (c .fit .ensures, ← (limits-sound .limits-sound .ensures), then1 .if1 .taken)
 
 returns-2 : tie.Need-returns-2
-returns-2 c = simp (← (c .before .limits-sound .ensures), c .if1 .left)
+returns-2 c =
+    let limits-sound : tie.After-limits-sound = search in
+    simp (← (limits-sound .limits-sound .ensures), c .if1 .left)
 
 pub pairs-sound-spec : {M : Type 1} → statement M
 pairs-sound-spec = tie.close (tie.spec limits-sound-requires fit-requires returns returns-2)

@@ -10,10 +10,14 @@ atoms-sound-requires : tie.Need-atoms-sound-requires
 atoms-sound-requires c κs = search needs
 
 returns : tie.Need-returns
-returns c = simp (← (c .before .before .atoms-sound .ensures), c .before .if1 .taken)
+returns c =
+    let (atoms-sound, then1) : tie.After-atoms-sound × tie.Then1 = search in
+    simp (← (atoms-sound .atoms-sound .ensures), then1 .if1 .taken)
 
 returns-2 : tie.Need-returns-2
-returns-2 c = simp (← (c .before .atoms-sound .ensures), c .if1 .left)
+returns-2 c =
+    let atoms-sound : tie.After-atoms-sound = search in
+    simp (← (atoms-sound .atoms-sound .ensures), c .if1 .left)
 
 pub store-sound-spec : {M : Type 1} → statement M
 store-sound-spec = tie.close (tie.spec atoms-sound-requires returns returns-2)

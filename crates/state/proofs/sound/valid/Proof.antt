@@ -24,16 +24,24 @@ enum-told-2 : tie.Need-enum-told-2
 enum-told-2 c = search needs
 
 returns : tie.Need-returns
-returns c = simp (sym (c .before .before .before .view .ensures) ∙ ap viewPaper (c .before .view2 .given .1))
+returns c =
+    let (view, view2) : tie.After-view × tie.After-view2 = search in
+    simp (sym (view .view .ensures) ∙ ap viewPaper (view2 .view2 .given .1))
 
 returns-2 : tie.Need-returns-2
-returns-2 c = simp (sym (c .before .before .before .view .ensures) ∙ ap viewPaper (c .before .view3 .given .1))
+returns-2 c =
+    let (view, view3) : tie.After-view × tie.After-view3 = search in
+    simp (sym (view .view .ensures) ∙ ap viewPaper (view3 .view3 .given .1))
 
 returns-3 : tie.Need-returns-3
-returns-3 c = simp (sym (c .before .before .view .ensures) ∙ ap viewPaper (c .enum-told .given .1))
+returns-3 c =
+    let view : tie.After-view = search in
+    simp (sym (view .view .ensures) ∙ ap viewPaper (c .enum-told .given .1))
 
 returns-4 : tie.Need-returns-4
-returns-4 c = simp (sym (c .before .before .view .ensures) ∙ ap viewPaper (c .enum-told2 .given .1))
+returns-4 c =
+    let view : tie.After-view = search in
+    simp (sym (view .view .ensures) ∙ ap viewPaper (c .enum-told2 .given .1))
 
 pub valid-spec : {M : Type 1} → statement M
 valid-spec =

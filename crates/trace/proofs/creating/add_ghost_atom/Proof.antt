@@ -16,7 +16,9 @@ bad-requires : tie.Need-bad-requires
 bad-requires c κs = search needs
 
 returns : tie.Need-returns
-returns c = λ l. simp (ne-eqb _ _ (c .before .if1 .taken), c .bad .ensures)
+returns c =
+    let then1 : tie.Then1 = search in
+    λ l. simp (ne-eqb _ _ (then1 .if1 .taken), c .bad .ensures)
 
 u64-at-requires : tie.Need-u64-at-requires
 u64-at-requires c κs = search needs
@@ -28,7 +30,9 @@ change-requires : tie.Need-change-requires
 change-requires c κs = search needs
 
 returns-2 : tie.Need-returns-2
-returns-2 c = λ l. simp (eq-eqb _ _ (c .before .before .before .before .if1 .left), c .change .ensures, ← (c .before .before .u64-at .ensures)) (ap (alone (didChange (c .before .before .before .before .before .before .args .m)) l) (c .before .add-ghost-atom .ensures))
+returns-2 c =
+    let (start, else1, u64-at, add-ghost-atom) : tie.Start × tie.Else1 × tie.After-u64-at × tie.After-add-ghost-atom = search in
+    λ l. simp (eq-eqb _ _ (else1 .if1 .left), c .change .ensures, ← (u64-at .u64-at .ensures)) (ap (alone (didChange (start .args .m)) l) (add-ghost-atom .add-ghost-atom .ensures))
 
 pub add-ghost-atom-spec : {M : Type 1} → statement M
 add-ghost-atom-spec =

@@ -26,7 +26,9 @@ same-length-3 : tie.Need-same-length-3
 same-length-3 c = search needs
 
 returns : tie.Need-returns
-returns c = λ q. simp (c .make .ensures) (ap (onStore (didMake (c .before .before .before .before .before .before .before .before .before .before .before .before .before .before .before .before .args .m)) (lists (c .before .before .before .before .before .before .before .before .before .before .before .before .before .before .before .before .args .bytes .now) (atomSlots (c .before .before .before .before .before .before .before .before .before .before .before .before .before .before .before .before .args .starts .now) (c .before .before .before .before .before .before .before .before .before .before .before .before .before .before .before .before .args .ends .now)) q)) (c .before .before .before .before .before .before .before .new-atom .ensures))
+returns c =
+    let (start, new-atom) : tie.Start × tie.After-new-atom = search in
+    λ q. simp (c .make .ensures) (ap (onStore (didMake (start .args .m)) (lists (start .args .bytes .now) (atomSlots (start .args .starts .now) (start .args .ends .now)) q)) (new-atom .new-atom .ensures))
 
 pub atom-spec : {M : Type 1} → statement M
 atom-spec =

@@ -26,7 +26,9 @@ bad-requires : tie.Need-bad-requires
 bad-requires c κs = search needs
 
 returns : tie.Need-returns
-returns c = λ q. simp (lt-leb _ _ (c .before .if1 .taken), c .bad .ensures)
+returns c =
+    let then1 : tie.Then1 = search in
+    λ q. simp (lt-leb _ _ (then1 .if1 .taken), c .bad .ensures)
 
 sub-if2 : tie.Need-sub-if2
 sub-if2 c = search needs
@@ -35,7 +37,9 @@ bad-requires-2 : tie.Need-bad-requires-2
 bad-requires-2 c κs = search needs
 
 returns-2 : tie.Need-returns-2
-returns-2 c = λ q. simp (le-leb _ _ (c .before .before .if1 .left), ne-eqb _ _ (c .before .if2 .taken), c .bad2 .ensures)
+returns-2 c =
+    let (else1, then2) : tie.Else1 × tie.Then2 = search in
+    λ q. simp (le-leb _ _ (else1 .if1 .left), ne-eqb _ _ (then2 .if2 .taken), c .bad2 .ensures)
 
 u64-at-requires : tie.Need-u64-at-requires
 u64-at-requires c κs = search needs
@@ -56,7 +60,9 @@ part-put-u32s-end : tie.Need-part-put-u32s-end
 part-put-u32s-end c = search needs
 
 put-u32s-requires : tie.Need-put-u32s-requires
-put-u32s-requires c κs = simp (length-take, length-drop) (omega (arith, c .before .before .before .before .before .before .before .before .before .before .pre))
+put-u32s-requires c κs =
+    let start : tie.Start = search in
+    simp (length-take, length-drop) (omega (arith, start .pre))
 
 array-share-prefix-nodes : tie.Need-array-share-prefix-nodes
 array-share-prefix-nodes c = search needs
@@ -79,11 +85,16 @@ same-length-2 c = search needs
 same-length-3 : tie.Need-same-length-3
 same-length-3 c = search needs
 
+abbrev earlier : tie.After-new-concat → tie.Start × tie.Else1 × tie.Else2 × tie.After-u64-at × tie.After-put-u32s
+earlier c = search
+
 returns-3 : tie.Need-returns-3
 returns-3 c =
-    let s = c .before .before .before .before .before .before .before .before .before .before .before .before .before .before .before .before .before .before .before .before .before .before .before .before .before .args in
-    let nodes = c .before .before .before .before .before .before .before .before .before .before .before .before .before .before .put-u32s .ensures .0 ∙ ap u32s (from-on (s .p .now) 8) in
-    λ q. simp (le-leb _ _ (c .before .before .before .before .before .before .before .before .before .before .before .before .before .before .before .before .before .before .before .before .if1 .left), eq-eqb _ _ (c .before .before .before .before .before .before .before .before .before .before .before .before .before .before .before .before .before .before .before .if2 .left), c .make .ensures, ← (c .before .before .before .before .before .before .before .before .before .before .before .before .before .before .before .before .before .before .u64-at .ensures)) (ap (onStore (didMake (s .m)) (lists (s .bytes .now) (atomSlots (s .starts .now) (s .ends .now)) q)) (c .before .before .before .before .before .before .before .new-concat .ensures ∙ ap (λ (x : List ℕ). newConcat (s .m .state) (c .before .before .before .before .before .before .before .before .before .before .before .before .before .before .before .before .before .before .u64-at .result) x (store (s .bytes .now) (atomSlots (s .starts .now) (s .ends .now)))) nodes))
+    let new-concat : tie.After-new-concat = search in
+    let (start, else1, else2, u64-at, put-u32s) = earlier new-concat in
+    let s = start .args in
+    let nodes = put-u32s .put-u32s .ensures .0 ∙ ap u32s (from-on (s .p .now) 8) in
+    λ q. simp (le-leb _ _ (else1 .if1 .left), eq-eqb _ _ (else2 .if2 .left), c .make .ensures, ← (u64-at .u64-at .ensures)) (ap (onStore (didMake (s .m)) (lists (s .bytes .now) (atomSlots (s .starts .now) (s .ends .now)) q)) (new-concat .new-concat .ensures ∙ ap (λ (x : List ℕ). newConcat (s .m .state) (u64-at .u64-at .result) x (store (s .bytes .now) (atomSlots (s .starts .now) (s .ends .now)))) nodes))
 
 pub concat-spec : {M : Type 1} → statement M
 concat-spec =

@@ -12,13 +12,17 @@ bad-requires : tie.Need-bad-requires
 bad-requires c κs = search needs
 
 returns : tie.Need-returns
-returns c = λ l. simp (ne-eqb _ _ (c .before .if1 .taken), c .bad .ensures)
+returns c =
+    let then1 : tie.Then1 = search in
+    λ l. simp (ne-eqb _ _ (then1 .if1 .taken), c .bad .ensures)
 
 take-requires : tie.Need-take-requires
 take-requires c κs = search needs
 
 returns-2 : tie.Need-returns-2
-returns-2 c = λ l. simp (eq-eqb _ _ (c .before .if1 .left), c .take .ensures)
+returns-2 c =
+    let else1 : tie.Else1 = search in
+    λ l. simp (eq-eqb _ _ (else1 .if1 .left), c .take .ensures)
 
 pub mark-spec : {M : Type 1} → statement M
 mark-spec = tie.close (tie.spec bad-requires returns take-requires returns-2)

@@ -17,7 +17,9 @@ bad-requires : tie.Need-bad-requires
 bad-requires c κs = search needs
 
 returns : tie.Need-returns
-returns c = λ b t. simp (ne-eqb _ _ (c .before .if1 .taken), c .bad .ensures)
+returns c =
+    let then1 : tie.Then1 = search in
+    λ b t. simp (ne-eqb _ _ (then1 .if1 .taken), c .bad .ensures)
 
 u32-at-requires : tie.Need-u32-at-requires
 u32-at-requires c κs = search needs
@@ -38,7 +40,9 @@ same-length-2 : tie.Need-same-length-2
 same-length-2 c = search needs
 
 returns-2 : tie.Need-returns-2
-returns-2 c = λ b t. simp (eq-eqb _ _ (c .before .before .before .before .before .before .before .before .before .before .before .if1 .left), c .make .ensures, ← (c .before .before .before .before .before .before .before .before .before .u32-at .ensures), ← (c .before .before .before .before .before .before .before .before .u32-at2 .ensures)) (ap (onPairs (didMake (c .before .before .before .before .before .before .before .before .before .before .before .before .before .before .before .args .m)) (lists b t (pairSlots (c .before .before .before .before .before .before .before .before .before .before .before .before .before .before .before .args .firsts .now) (c .before .before .before .before .before .before .before .before .before .before .before .before .before .before .before .args .rests .now)))) (c .before .before .before .before .before .new-pair .ensures))
+returns-2 c =
+    let (start, else1, u32-at, u32-at2, new-pair) : tie.Start × tie.Else1 × tie.After-u32-at × tie.After-u32-at2 × tie.After-new-pair = search in
+    λ b t. simp (eq-eqb _ _ (else1 .if1 .left), c .make .ensures, ← (u32-at .u32-at .ensures), ← (u32-at2 .u32-at2 .ensures)) (ap (onPairs (didMake (start .args .m)) (lists b t (pairSlots (start .args .firsts .now) (start .args .rests .now)))) (new-pair .new-pair .ensures))
 
 pub pair-spec : {M : Type 1} → statement M
 pair-spec =

@@ -16,7 +16,9 @@ bad-requires : tie.Need-bad-requires
 bad-requires c κs = search needs
 
 returns : tie.Need-returns
-returns c = λ l. simp (ne-eqb _ _ (c .before .if1 .taken), c .bad .ensures)
+returns c =
+    let then1 : tie.Then1 = search in
+    λ l. simp (ne-eqb _ _ (then1 .if1 .taken), c .bad .ensures)
 
 u32-at-requires : tie.Need-u32-at-requires
 u32-at-requires c κs = search needs
@@ -28,7 +30,9 @@ make-requires : tie.Need-make-requires
 make-requires c κs = search needs
 
 returns-2 : tie.Need-returns-2
-returns-2 c = λ l. simp (eq-eqb _ _ (c .before .before .before .before .if1 .left), c .make .ensures, ← (c .before .before .u32-at .ensures)) (ap (alone (didMake (c .before .before .before .before .before .before .args .m)) l) (c .before .new-small-number .ensures))
+returns-2 c =
+    let (start, else1, u32-at, new-small-number) : tie.Start × tie.Else1 × tie.After-u32-at × tie.After-new-small-number = search in
+    λ l. simp (eq-eqb _ _ (else1 .if1 .left), c .make .ensures, ← (u32-at .u32-at .ensures)) (ap (alone (didMake (start .args .m)) l) (new-small-number .new-small-number .ensures))
 
 pub small-number-spec : {M : Type 1} → statement M
 small-number-spec =

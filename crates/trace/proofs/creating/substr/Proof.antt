@@ -17,7 +17,9 @@ bad-requires : tie.Need-bad-requires
 bad-requires c κs = search needs
 
 returns : tie.Need-returns
-returns c = λ q. simp (ne-eqb _ _ (c .before .if1 .taken), c .bad .ensures)
+returns c =
+    let then1 : tie.Then1 = search in
+    λ q. simp (ne-eqb _ _ (then1 .if1 .taken), c .bad .ensures)
 
 u32-at-requires : tie.Need-u32-at-requires
 u32-at-requires c κs = search needs
@@ -43,8 +45,14 @@ same-length-2 c = search needs
 same-length-3 : tie.Need-same-length-3
 same-length-3 c = search needs
 
+abbrev earlier : tie.After-new-substr → tie.Start × tie.Else1 × tie.After-u32-at × tie.After-u32-at2 × tie.After-u32-at3
+earlier c = search
+
 returns-2 : tie.Need-returns-2
-returns-2 c = λ q. simp (eq-eqb _ _ (c .before .before .before .before .before .before .before .before .before .before .before .before .before .before .before .if1 .left), c .make .ensures, ← (c .before .before .before .before .before .before .before .before .before .before .before .before .before .u32-at .ensures), ← (c .before .before .before .before .before .before .before .before .before .before .before .before .u32-at2 .ensures), ← (c .before .before .before .before .before .before .before .before .before .before .before .u32-at3 .ensures)) (ap (onStore (didMake (c .before .before .before .before .before .before .before .before .before .before .before .before .before .before .before .before .before .before .before .before .args .m)) (lists (c .before .before .before .before .before .before .before .before .before .before .before .before .before .before .before .before .before .before .before .before .args .bytes .now) (atomSlots (c .before .before .before .before .before .before .before .before .before .before .before .before .before .before .before .before .before .before .before .before .args .starts .now) (c .before .before .before .before .before .before .before .before .before .before .before .before .before .before .before .before .before .before .before .before .args .ends .now)) q)) (c .before .before .before .before .before .before .before .new-substr .ensures))
+returns-2 c =
+    let new-substr : tie.After-new-substr = search in
+    let (start, else1, u32-at, u32-at2, u32-at3) = earlier new-substr in
+    λ q. simp (eq-eqb _ _ (else1 .if1 .left), c .make .ensures, ← (u32-at .u32-at .ensures), ← (u32-at2 .u32-at2 .ensures), ← (u32-at3 .u32-at3 .ensures)) (ap (onStore (didMake (start .args .m)) (lists (start .args .bytes .now) (atomSlots (start .args .starts .now) (start .args .ends .now)) q)) (new-substr .new-substr .ensures))
 
 pub substr-spec : {M : Type 1} → statement M
 substr-spec =

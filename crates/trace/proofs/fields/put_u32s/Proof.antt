@@ -34,29 +34,39 @@ mul-out : tie.Need-mul-out Inv-loop μ-loop
 mul-out c = search needs
 
 slice-write-out : tie.Need-slice-write-out Inv-loop μ-loop
-slice-write-out c = omega (arith, c .before .before .loop .inv)
+slice-write-out c =
+    let loop : tie.At-loop Inv-loop μ-loop = search in
+    omega (arith, loop .loop .inv)
 
 add-i : tie.Need-add-i Inv-loop μ-loop
-add-i c = omega (arith, c .before .before .loop .inv)
+add-i c =
+    let loop : tie.At-loop Inv-loop μ-loop = search in
+    omega (arith, loop .loop .inv)
 
 loop-less : tie.Need-loop-less Inv-loop μ-loop
-loop-less c = omega (arith, c .before .before .loop .inv)
+loop-less c =
+    let loop : tie.At-loop Inv-loop μ-loop = search in
+    omega (arith, loop .loop .inv)
 
 loop-again : tie.Need-loop-again Inv-loop μ-loop
 unfolding u32sTo
 loop-again c =
-    let v = c .before .before .loop .inv in
-    let h : c .before .before .loop .i < length (c .before .before .loop .out) = omega (arith, v) in
-    (omega (arith, c .before .loop-test .taken), v .1, simp length-set (v .2), rw (add-one, take-suc-set (c .before .before .loop .out) (c .before .before .loop .i) (c .u32-at .result) h) (ap₂ (λ (a : List ℕ) (b : ℕ). a ++ (b ∷ [])) (v .3) (c .u32-at .ensures)), v .4)
+    let (loop, in-loop) : tie.At-loop Inv-loop μ-loop × tie.In-loop Inv-loop μ-loop = search in
+    let v = loop .loop .inv in
+    let h : loop .loop .i < length (loop .loop .out) = omega (arith, v) in
+    (omega (arith, in-loop .loop-test .taken), v .1, simp length-set (v .2), rw (add-one, take-suc-set (loop .loop .out) (loop .loop .i) (c .u32-at .result) h) (ap₂ (λ (a : List ℕ) (b : ℕ). a ++ (b ∷ [])) (v .3) (c .u32-at .ensures)), v .4)
 
 same-length : tie.Need-same-length Inv-loop μ-loop
-same-length c = c .before .loop .inv .2
+same-length c =
+    let loop : tie.At-loop Inv-loop μ-loop = search in
+    loop .loop .inv .2
 
 returns : tie.Need-returns Inv-loop μ-loop
 returns c =
-    let v = c .before .loop .inv in
-    let e : c .before .loop .i ≡ length (c .before .before .before .before .args .s .now) / 4 = omega (arith, v) in
-    (rw e at (v .3), (omega (arith, v), sym (length-take-le (length (c .before .before .before .before .args .s .now) / 4) (c .before .loop .out) (omega (arith, v)))))
+    let (start, loop) : tie.Start Inv-loop μ-loop × tie.At-loop Inv-loop μ-loop = search in
+    let v = loop .loop .inv in
+    let e : loop .loop .i ≡ length (start .args .s .now) / 4 = omega (arith, v) in
+    (rw e at (v .3), (omega (arith, v), sym (length-take-le (length (start .args .s .now) / 4) (loop .loop .out) (omega (arith, v)))))
 
 pub put-u32s-spec : {M : Type 1} → statement M
 put-u32s-spec =

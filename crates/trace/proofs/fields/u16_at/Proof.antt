@@ -24,13 +24,19 @@ wide-requires-2 : tie.Need-wide-requires-2
 wide-requires-2 c κs = search needs
 
 mul-result : tie.Need-mul-result
-mul-result c = omega (arith, c .wide2 .ensures, c .before .before .before .before .shared-slice-known .given (c .before .before .before .before .before .args .i + 1))
+mul-result c =
+    let (start, shared-slice-known) : tie.Start × tie.After-shared-slice-known = search in
+    omega (arith, c .wide2 .ensures, shared-slice-known .shared-slice-known .given (start .args .i + 1))
 
 add-result : tie.Need-add-result
-add-result c = omega (arith, c .wide2 .ensures, c .before .before .wide .ensures, c .before .before .before .before .shared-slice-known .given (c .before .before .before .before .before .args .i), c .before .before .before .before .shared-slice-known .given (c .before .before .before .before .before .args .i + 1))
+add-result c =
+    let (start, shared-slice-known, wide) : tie.Start × tie.After-shared-slice-known × tie.After-wide = search in
+    omega (arith, c .wide2 .ensures, wide .wide .ensures, shared-slice-known .shared-slice-known .given (start .args .i), shared-slice-known .shared-slice-known .given (start .args .i + 1))
 
 returns : tie.Need-returns
-returns c = (simp (c .wide2 .ensures, c .before .before .wide .ensures), omega (arith, c .wide2 .ensures, c .before .before .wide .ensures, c .before .before .before .before .shared-slice-known .given (c .before .before .before .before .before .args .i), c .before .before .before .before .shared-slice-known .given (c .before .before .before .before .before .args .i + 1)))
+returns c =
+    let (start, shared-slice-known, wide) : tie.Start × tie.After-shared-slice-known × tie.After-wide = search in
+    (simp (c .wide2 .ensures, wide .wide .ensures), omega (arith, c .wide2 .ensures, wide .wide .ensures, shared-slice-known .shared-slice-known .given (start .args .i), shared-slice-known .shared-slice-known .given (start .args .i + 1)))
 
 pub u16-at-spec : {M : Type 1} → statement M
 u16-at-spec =

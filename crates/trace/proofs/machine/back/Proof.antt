@@ -24,10 +24,14 @@ number-requires : tie.Need-number-requires
 number-requires c κs = search needs
 
 returns : tie.Need-returns
-returns c = simp (c .with-restored .ensures, c .before .enum-told .given .1)
+returns c =
+    let told : tie.After-enum-told = search in
+    simp (c .with-restored .ensures, told .enum-told .given .1)
 
 returns-2 : tie.Need-returns-2
-returns-2 c = simp (c .number .ensures, c .before .with-state .ensures, c .before .before .before .verdict .given .1)
+returns-2 c =
+    let (verdict, with-state) : tie.After-verdict × tie.After-with-state = search in
+    simp (c .number .ensures, with-state .with-state .ensures, verdict .verdict .given .1)
 
 pub back-spec : {M : Type 1} → statement M
 back-spec =

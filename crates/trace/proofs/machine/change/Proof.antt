@@ -20,10 +20,14 @@ number-requires : tie.Need-number-requires
 number-requires c κs = search needs
 
 returns : tie.Need-returns
-returns c = simp (c .before .before .with-state .ensures, c .enum-told .given .1)
+returns c =
+    let with-state : tie.After-with-state = search in
+    simp (with-state .with-state .ensures, c .enum-told .given .1)
 
 returns-2 : tie.Need-returns-2
-returns-2 c = simp (c .number .ensures, c .before .before .before .before .with-state .ensures, c .before .before .verdict .given .1)
+returns-2 c =
+    let (with-state, verdict) : tie.After-with-state × tie.After-verdict = search in
+    simp (c .number .ensures, with-state .with-state .ensures, verdict .verdict .given .1)
 
 pub change-spec : {M : Type 1} → statement M
 change-spec =

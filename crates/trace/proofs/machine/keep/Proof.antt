@@ -11,7 +11,9 @@ refuse-requires : tie.Need-refuse-requires
 refuse-requires c κs = search needs
 
 returns : tie.Need-returns
-returns c = simp (c .refuse .ensures, le-ltb _ _ (c .before .if1 .taken))
+returns c =
+    let then1 : tie.Then1 = search in
+    simp (c .refuse .ensures, le-ltb _ _ (then1 .if1 .taken))
 
 mul-marks : tie.Need-mul-marks
 mul-marks c = search needs
@@ -23,7 +25,9 @@ add-t8 : tie.Need-add-t8
 add-t8 c = search needs
 
 returns-2 : tie.Need-returns-2
-returns-2 c = simp (lt-ltb _ _ (c .before .before .if1 .left))
+returns-2 c =
+    let else1 : tie.Else1 = search in
+    simp (lt-ltb _ _ (else1 .if1 .left))
 
 pub keep-spec : {M : Type 1} → statement M
 keep-spec =

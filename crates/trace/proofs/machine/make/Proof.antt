@@ -20,10 +20,14 @@ number-requires : tie.Need-number-requires
 number-requires c κs = search needs
 
 returns : tie.Need-returns
-returns c = simp (c .before .before .before .with-state .ensures, c .before .answer .given .1)
+returns c =
+    let (with-state, answer) : tie.After-with-state × tie.After-answer = search in
+    simp (with-state .with-state .ensures, answer .answer .given .1)
 
 returns-2 : tie.Need-returns-2
-returns-2 c = simp (c .number .ensures, c .before .before .before .before .with-state .ensures, c .before .before .answer2 .given .1)
+returns-2 c =
+    let (with-state, answer2) : tie.After-with-state × tie.After-answer2 = search in
+    simp (c .number .ensures, with-state .with-state .ensures, answer2 .answer2 .given .1)
 
 pub make-spec : {M : Type 1} → statement M
 make-spec =

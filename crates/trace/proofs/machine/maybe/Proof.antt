@@ -36,16 +36,24 @@ number-requires : tie.Need-number-requires
 number-requires c κs = search needs
 
 returns : tie.Need-returns
-returns c = simp (c .with-restored .ensures, c .before .enum-told .given .1)
+returns c =
+    let told : tie.After-enum-told = search in
+    simp (c .with-restored .ensures, told .enum-told .given .1)
 
 returns-2 : tie.Need-returns-2
-returns-2 c = simp (c .with-restored2 .ensures, c .before .before .answer .given .1)
+returns-2 c =
+    let answer : tie.After-answer = search in
+    simp (c .with-restored2 .ensures, answer .answer .given .1)
 
 returns-3 : tie.Need-returns-3
-returns-3 c = simp (c .with-state .ensures, c .before .enum-told2 .given .1)
+returns-3 c =
+    let told2 : tie.After-enum-told2 = search in
+    simp (c .with-state .ensures, told2 .enum-told2 .given .1)
 
 returns-4 : tie.Need-returns-4
-returns-4 c = simp (c .number .ensures, c .before .with-state2 .ensures, c .before .before .before .answer2 .given .1)
+returns-4 c =
+    let (answer2, with-state2) : tie.After-answer2 × tie.After-with-state2 = search in
+    simp (c .number .ensures, with-state2 .with-state2 .ensures, answer2 .answer2 .given .1)
 
 pub maybe-spec : {M : Type 1} → statement M
 maybe-spec =

@@ -27,12 +27,14 @@ number-requires c κs = search needs
 
 returns : tie.Need-returns
 returns c =
-    let e = sym (c .before .before .before .before .checkpoint .ensures) ∙ ap takenPaper (c .before .before .taken .given .1) in
+    let (checkpoint, taken) : tie.After-checkpoint × tie.After-taken = search in
+    let e = sym (checkpoint .checkpoint .ensures) ∙ ap takenPaper (taken .taken .given .1) in
     simp (e, c .keep .ensures)
 
 returns-2 : tie.Need-returns-2
 returns-2 c =
-    let e = sym (c .before .before .before .before .checkpoint .ensures) ∙ ap takenPaper (c .before .before .taken2 .given .1) in
+    let (checkpoint, taken2) : tie.After-checkpoint × tie.After-taken2 = search in
+    let e = sym (checkpoint .checkpoint .ensures) ∙ ap takenPaper (taken2 .taken2 .given .1) in
     simp (e, c .number .ensures)
 
 pub take-spec : {M : Type 1} → statement M

@@ -13,7 +13,9 @@ add-released : tie.Need-add-released
 add-released c = search needs
 
 returns : tie.Need-returns
-returns c = simp (c .before .before .saved .ensures .0)
+returns c =
+    let saved : tie.After-saved = search in
+    simp (saved .saved .ensures .0)
 
 pub with-restored-spec : {M : Type 1} → statement M
 with-restored-spec = tie.close (tie.spec saved-requires add-released returns)

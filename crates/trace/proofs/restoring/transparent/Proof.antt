@@ -18,7 +18,9 @@ bad-requires : tie.Need-bad-requires
 bad-requires c κs = search needs
 
 returns : tie.Need-returns
-returns c = λ b. simp (ne-eqb _ _ (c .before .if1 .taken), c .bad .ensures)
+returns c =
+    let then1 : tie.Then1 = search in
+    λ b. simp (ne-eqb _ _ (then1 .if1 .taken), c .bad .ensures)
 
 u16-at-requires : tie.Need-u16-at-requires
 u16-at-requires c κs = search needs
@@ -27,7 +29,9 @@ untaken-requires : tie.Need-untaken-requires
 untaken-requires c κs = search needs
 
 returns-2 : tie.Need-returns-2
-returns-2 c = λ b. simp (eq-eqb _ _ (c .before .before .before .if1 .left), ← (c .before .before .u16-at .ensures .0), le-ltb _ _ (c .before .if2 .taken), c .untaken .ensures)
+returns-2 c =
+    let (else1, u16-at, then2) : tie.Else1 × tie.After-u16-at × tie.Then2 = search in
+    λ b. simp (eq-eqb _ _ (else1 .if1 .left), ← (u16-at .u16-at .ensures .0), le-ltb _ _ (then2 .if2 .taken), c .untaken .ensures)
 
 mul-k : tie.Need-mul-k
 mul-k c = search needs
@@ -43,8 +47,10 @@ back-requires c κs = search needs
 
 returns-3 : tie.Need-returns-3
 returns-3 c =
-    let s = c .before .before .before .before .before .before .before .before .before .before .before .before .before .args in
-    λ b. simp (eq-eqb _ _ (c .before .before .before .before .before .before .before .if1 .left), ← (c .before .before .before .before .before .before .u16-at .ensures .0), lt-ltb _ _ (c .before .before .before .before .before .if2 .left), c .back .ensures) (ap (alone (didRestore (s .t1) (markAt (s .t1) (c .before .before .before .before .before .before .u16-at .result) .used)) (lists b (atomSlots (s .starts .now) (s .ends .now)) (pairSlots (s .firsts .now) (s .rests .now)))) (c .before .restore-transparent-checkpoint .ensures))
+    let (start, else1, u16-at, else2, restore-transparent-checkpoint) :
+    tie.Start × tie.Else1 × tie.After-u16-at × tie.Else2 × tie.After-restore-transparent-checkpoint = search in
+    let s = start .args in
+    λ b. simp (eq-eqb _ _ (else1 .if1 .left), ← (u16-at .u16-at .ensures .0), lt-ltb _ _ (else2 .if2 .left), c .back .ensures) (ap (alone (didRestore (s .t1) (markAt (s .t1) (u16-at .u16-at .result) .used)) (lists b (atomSlots (s .starts .now) (s .ends .now)) (pairSlots (s .firsts .now) (s .rests .now)))) (restore-transparent-checkpoint .restore-transparent-checkpoint .ensures))
 
 pub transparent-spec : {M : Type 1} → statement M
 transparent-spec =

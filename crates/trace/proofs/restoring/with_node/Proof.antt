@@ -19,7 +19,9 @@ bad-requires : tie.Need-bad-requires
 bad-requires c κs = search needs
 
 returns : tie.Need-returns
-returns c = simp (ne-eqb _ _ (c .before .if1 .taken), c .bad .ensures)
+returns c =
+    let then1 : tie.Then1 = search in
+    simp (ne-eqb _ _ (then1 .if1 .taken), c .bad .ensures)
 
 u16-at-requires : tie.Need-u16-at-requires
 u16-at-requires c κs = search needs
@@ -28,7 +30,9 @@ untaken-requires : tie.Need-untaken-requires
 untaken-requires c κs = search needs
 
 returns-2 : tie.Need-returns-2
-returns-2 c = simp (eq-eqb _ _ (c .before .before .before .if1 .left), ← (c .before .before .u16-at .ensures .0), le-ltb _ _ (c .before .if2 .taken), c .untaken .ensures)
+returns-2 c =
+    let (else1, u16-at, then2) : tie.Else1 × tie.After-u16-at × tie.Then2 = search in
+    simp (eq-eqb _ _ (else1 .if1 .left), ← (u16-at .u16-at .ensures .0), le-ltb _ _ (then2 .if2 .taken), c .untaken .ensures)
 
 u32-at-requires : tie.Need-u32-at-requires
 u32-at-requires c κs = search needs
@@ -54,10 +58,15 @@ same-length-2 c = search needs
 same-length-3 : tie.Need-same-length-3
 same-length-3 c = search needs
 
+abbrev earlier : tie.After-maybe-restore-with-node → tie.Start × tie.Else1 × tie.After-u16-at × tie.Else2 × tie.After-u32-at
+earlier c = search
+
 returns-3 : tie.Need-returns-3
 returns-3 c =
-    let s = c .before .before .before .before .before .before .before .before .before .before .before .before .before .before .before .before .before .before .before .before .before .before .before .before .args in
-    simp (eq-eqb _ _ (c .before .before .before .before .before .before .before .before .before .before .before .before .before .before .before .before .before .if1 .left), ← (c .before .before .before .before .before .before .before .before .before .before .before .before .before .before .before .before .u16-at .ensures .0), ← (c .before .before .before .before .before .before .before .before .before .before .before .before .before .before .u32-at .ensures), lt-ltb _ _ (c .before .before .before .before .before .before .before .before .before .before .before .before .before .before .before .if2 .left), c .maybe .ensures) (ap (onStore (didMaybe (s .t1) (markAt (s .t1) (c .before .before .before .before .before .before .before .before .before .before .before .before .before .before .before .before .u16-at .result) .used) (c .before .before .before .before .before .before .before .before .before .before .before .before .before .before .u32-at .result)) (lists (s .bytes .now) (atomSlots (s .starts .now) (s .ends .now)) (pairSlots (s .firsts .now) (s .rests .now)))) (c .before .before .before .before .before .before .before .maybe-restore-with-node .ensures))
+    let maybe-restore-with-node : tie.After-maybe-restore-with-node = search in
+    let (start, else1, u16-at, else2, u32-at) = earlier maybe-restore-with-node in
+    let s = start .args in
+    simp (eq-eqb _ _ (else1 .if1 .left), ← (u16-at .u16-at .ensures .0), ← (u32-at .u32-at .ensures), lt-ltb _ _ (else2 .if2 .left), c .maybe .ensures) (ap (onStore (didMaybe (s .t1) (markAt (s .t1) (u16-at .u16-at .result) .used) (u32-at .u32-at .result)) (lists (s .bytes .now) (atomSlots (s .starts .now) (s .ends .now)) (pairSlots (s .firsts .now) (s .rests .now)))) (maybe-restore-with-node .maybe-restore-with-node .ensures))
 
 pub with-node-spec : {M : Type 1} → statement M
 with-node-spec =

@@ -13,7 +13,9 @@ take-step-requires : tie.Need-take-step-requires
 take-step-requires c κs = search needs
 
 put-row-requires : tie.Need-put-row-requires
-put-row-requires c κs = omega (arith, c .before .before .before .before .before .before .before .before .before .before .before .before .before .before .before .before .before .before .before .before .before .before .before .before .before .before .pre .1)
+put-row-requires c κs =
+    let start : tie.Start = search in
+    omega (arith, start .pre .1)
 
 same-length : tie.Need-same-length
 same-length c = search needs
@@ -33,13 +35,18 @@ same-length-5 c = search needs
 same-length-6 : tie.Need-same-length-6
 same-length-6 c = search needs
 
+abbrev earlier : tie.After-take-step → tie.Start × tie.After-shared-slice-known
+earlier c = search
+
 returns : tie.Need-returns
 returns c =
-    let s = c .before .before .before .before .before .before .before .before .before .before .before .before .before .before .before .before .before .before .before .before .before .before .before .before .before .before .before .before .before .args in
-    let h = c .before .before .before .before .before .before .before .before .before .before .before .before .before .before .before .before .before .before .before .before .before .before .before .before .before .before .before .before .before .pre .1 in
-    let t = c .before .before .before .before .before .before .before .before .before .before .before .before .before .before .before .before .take-step in
-    let p = c .before .before .put-row in
-    advanced (s .m) _ (s .rest .now) (s .out .now) (p .last .0) (s .w) (p .result) _ (t .ensures) (h .1) (c .before .before .before .before .before .before .before .before .before .before .before .before .before .before .before .before .before .before .before .before .before .before .before .before .before .before .before .before .before .pre .0) (λ i. omega (arith, c .before .before .before .before .before .before .before .before .before .before .before .before .before .before .before .before .before .before .before .before .before .before .before .shared-slice-known .given i)) (h .0) (p .ensures .0) (p .ensures .1)
+    let (take-step, put-row) : tie.After-take-step × tie.After-put-row = search in
+    let (start, shared-slice-known) = earlier take-step in
+    let s = start .args in
+    let h = start .pre .1 in
+    let t = take-step .take-step in
+    let p = put-row .put-row in
+    advanced (s .m) _ (s .rest .now) (s .out .now) (p .last .0) (s .w) (p .result) _ (t .ensures) (h .1) (start .pre .0) (λ i. omega (arith, shared-slice-known .shared-slice-known .given i)) (h .0) (p .ensures .0) (p .ensures .1)
 
 pub advance-spec : {M : Type 1} → statement M
 advance-spec =

@@ -25,10 +25,11 @@ same-length c = search needs
 
 returns : tie.Need-returns
 returns c =
-    let s = c .before .before .before .before .before .before .before .before .before .before .before .before .args in
-    let p = c .before .before .put-long in
-    let h : 9 ≤ length (p .last .0) = omega (arith, c .before .before .before .before .before .before .before .before .before .before .before .before .pre, p .kept .0) in
-    ((omega (arith, p .ensures .1), sym (length-take-le (p .result) (p .last .0) (omega (arith, p .ensures .1)))), p .ensures .0 .text ∙ sym (text-long _ (s .input .now) (c .before .before .before .before .if1 .taken)))
+    let (start, then1, put-long) : tie.Start × tie.Then1 × tie.After-put-long = search in
+    let s = start .args in
+    let p = put-long .put-long in
+    let h : 9 ≤ length (p .last .0) = omega (arith, start .pre, p .kept .0) in
+    ((omega (arith, p .ensures .1), sym (length-take-le (p .result) (p .last .0) (omega (arith, p .ensures .1)))), p .ensures .0 .text ∙ sym (text-long _ (s .input .now) (then1 .if1 .taken)))
 
 put-head-requires : tie.Need-put-head-requires
 put-head-requires c κs = search needs
@@ -38,8 +39,9 @@ fresh-requires c κs = search needs
 
 run-requires : tie.Need-run-requires
 run-requires c κs =
-    let s = c .before .before .before .before .before .before .before .before .before .before .before .before .before .before .before .before .before .before .before .args in
-    (first-ready (lists (s .bytes .now) (atomSlots (s .starts .now) (s .ends .now)) (pairSlots (s .firsts .now) (s .rests .now))) (c .before .before .before .before .before .before .fresh .result) (λ i. omega (arith, c .before .before .before .before .before .before .before .before .before .before .before .before .before .before .before .before .before .before .slice-known .given i)) (c .before .before .before .before .before .before .fresh .ensures), (omega (arith, ap (λ (x : Machine). x .shown) (c .before .before .before .before .before .before .fresh .ensures)), omega arith, omega (arith, c .before .before .before .before .before .before .before .before .before .before .before .if1 .left), omega (arith, c .before .before .before .before .before .before .before .before .before .put-head .ensures .1, c .before .before .before .before .before .before .before .before .before .before .before .before .before .before .before .before .before .before .before .pre)))
+    let (start, slice-known, else1, put-head, fresh) : tie.Start × tie.After-slice-known × tie.Else1 × tie.After-put-head × tie.After-fresh = search in
+    let s = start .args in
+    (first-ready (lists (s .bytes .now) (atomSlots (s .starts .now) (s .ends .now)) (pairSlots (s .firsts .now) (s .rests .now))) (fresh .fresh .result) (λ i. omega (arith, slice-known .slice-known .given i)) (fresh .fresh .ensures), (omega (arith, ap (λ (x : Machine). x .shown) (fresh .fresh .ensures)), omega arith, omega (arith, else1 .if1 .left), omega (arith, put-head .put-head .ensures .1, start .pre)))
 
 same-length-2 : tie.Need-same-length-2
 same-length-2 c = search needs
@@ -59,13 +61,18 @@ same-length-6 c = search needs
 same-length-7 : tie.Need-same-length-7
 same-length-7 c = search needs
 
+abbrev earlier : tie.After-fresh → tie.Start × tie.Else1 × tie.After-put-head
+earlier c = search
+
 returns-2 : tie.Need-returns-2
 returns-2 c =
-    let s = c .before .before .before .before .before .before .before .before .before .before .before .before .before .before .before .before .before .before .before .before .before .before .before .before .before .before .before .before .before .before .before .before .args in
-    let p = c .before .before .before .before .before .before .before .before .before .before .before .before .before .before .before .before .before .before .before .before .before .before .put-head in
-    let r = c .before .before .before .before .before .before .before .before .before .before .before .before .run in
+    let (fresh, run) : tie.After-fresh × tie.After-run = search in
+    let (start, else1, put-head) = earlier fresh in
+    let s = start .args in
+    let p = put-head .put-head in
+    let r = run .run in
     let n = r .ensures .fits in
-    ((omega (arith, n), sym (length-take-le (r .result .wrote) (r .last .1 .1 .1 .1 .1 .1 .1 .1 .0) (omega (arith, n)))), whole-text _ _ (s .input .now) (s .out .now) (p .last .0) _ (c .before .before .before .before .before .before .before .before .before .before .before .before .before .before .before .before .before .before .before .fresh .result) (p .result) (r .result) (c .before .before .before .before .before .before .before .before .before .before .before .before .before .before .before .before .before .before .before .fresh .ensures) (p .ensures .1) (p .ensures .0) (r .ensures) (omega (arith, c .before .before .before .before .before .before .before .before .before .before .before .before .before .before .before .before .before .before .before .before .before .before .before .before .if1 .left)) (omega (arith, c .before .before .before .before .before .before .before .before .before .before .before .before .before .before .before .before .before .before .before .before .before .before .before .before .before .before .before .before .before .before .before .before .pre)))
+    ((omega (arith, n), sym (length-take-le (r .result .wrote) (r .last .1 .1 .1 .1 .1 .1 .1 .1 .0) (omega (arith, n)))), whole-text _ _ (s .input .now) (s .out .now) (p .last .0) _ (fresh .fresh .result) (p .result) (r .result) (fresh .fresh .ensures) (p .ensures .1) (p .ensures .0) (r .ensures) (omega (arith, else1 .if1 .left)) (omega (arith, start .pre)))
 
 pub whole-spec : {M : Type 1} → statement M
 whole-spec =

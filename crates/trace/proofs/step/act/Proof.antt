@@ -29,7 +29,9 @@ same-length-3 c = search needs
 
 returns : tie.Need-returns
 unfolding requestOf
-returns c = simp (eq-eqb _ _ (c .before .before .before .before .before .before .before .before .before .before .if1 .taken)) (c .before .before .before .before .before .before .atom .ensures (pairSlots (c .before .before .before .before .before .before .before .before .before .before .before .before .before .before .before .before .before .args .firsts .now) (c .before .before .before .before .before .before .before .before .before .before .before .before .before .before .before .before .before .args .rests .now)))
+returns c =
+    let (start, then1, atom) : tie.Start × tie.Then1 × tie.After-atom = search in
+    simp (eq-eqb _ _ (then1 .if1 .taken)) (atom .atom .ensures (pairSlots (start .args .firsts .now) (start .args .rests .now)))
 
 pair-requires : tie.Need-pair-requires
 pair-requires c κs = search needs
@@ -42,7 +44,9 @@ same-length-5 c = search needs
 
 returns-2 : tie.Need-returns-2
 unfolding requestOf
-returns-2 c = simp (ne-eqb _ _ (c .before .before .before .before .before .before .before .before .if1 .left), eq-eqb _ _ (c .before .before .before .before .before .before .before .if2 .taken)) (c .before .before .before .before .pair .ensures (c .before .before .before .before .before .before .before .before .before .before .before .before .before .before .before .args .bytes .now) (atomSlots (c .before .before .before .before .before .before .before .before .before .before .before .before .before .before .before .args .starts .now) (c .before .before .before .before .before .before .before .before .before .before .before .before .before .before .before .args .ends .now)))
+returns-2 c =
+    let (start, else1, then2, pair) : tie.Start × tie.Else1 × tie.Then2 × tie.After-pair = search in
+    simp (ne-eqb _ _ (else1 .if1 .left), eq-eqb _ _ (then2 .if2 .taken)) (pair .pair .ensures (start .args .bytes .now) (atomSlots (start .args .starts .now) (start .args .ends .now)))
 
 substr-requires : tie.Need-substr-requires
 substr-requires c κs = search needs
@@ -58,7 +62,9 @@ same-length-8 c = search needs
 
 returns-3 : tie.Need-returns-3
 unfolding requestOf
-returns-3 c = simp (ne-eqb _ _ (c .before .before .before .before .before .before .before .before .before .before .before .before .if1 .left), ne-eqb _ _ (c .before .before .before .before .before .before .before .before .before .before .before .if2 .left), eq-eqb _ _ (c .before .before .before .before .before .before .before .before .before .before .if3 .taken)) (c .before .before .before .before .before .before .substr .ensures (pairSlots (c .before .before .before .before .before .before .before .before .before .before .before .before .before .before .before .before .before .before .before .args .firsts .now) (c .before .before .before .before .before .before .before .before .before .before .before .before .before .before .before .before .before .before .before .args .rests .now)))
+returns-3 c =
+    let (start, else1, else2, then3, substr) : tie.Start × tie.Else1 × tie.Else2 × tie.Then3 × tie.After-substr = search in
+    simp (ne-eqb _ _ (else1 .if1 .left), ne-eqb _ _ (else2 .if2 .left), eq-eqb _ _ (then3 .if3 .taken)) (substr .substr .ensures (pairSlots (start .args .firsts .now) (start .args .rests .now)))
 
 concat-requires : tie.Need-concat-requires
 concat-requires c κs = search needs
@@ -74,21 +80,27 @@ same-length-11 c = search needs
 
 returns-4 : tie.Need-returns-4
 unfolding requestOf
-returns-4 c = simp (ne-eqb _ _ (c .before .before .before .before .before .before .before .before .before .before .before .before .before .if1 .left), ne-eqb _ _ (c .before .before .before .before .before .before .before .before .before .before .before .before .if2 .left), ne-eqb _ _ (c .before .before .before .before .before .before .before .before .before .before .before .if3 .left), eq-eqb _ _ (c .before .before .before .before .before .before .before .before .before .before .if4 .taken)) (c .before .before .before .before .before .before .concat .ensures (pairSlots (c .before .before .before .before .before .before .before .before .before .before .before .before .before .before .before .before .before .before .before .before .args .firsts .now) (c .before .before .before .before .before .before .before .before .before .before .before .before .before .before .before .before .before .before .before .before .args .rests .now)))
+returns-4 c =
+    let (start, else1, else2, else3, then4, concat) : tie.Start × tie.Else1 × tie.Else2 × tie.Else3 × tie.Then4 × tie.After-concat = search in
+    simp (ne-eqb _ _ (else1 .if1 .left), ne-eqb _ _ (else2 .if2 .left), ne-eqb _ _ (else3 .if3 .left), eq-eqb _ _ (then4 .if4 .taken)) (concat .concat .ensures (pairSlots (start .args .firsts .now) (start .args .rests .now)))
 
 small-number-requires : tie.Need-small-number-requires
 small-number-requires c κs = search needs
 
 returns-5 : tie.Need-returns-5
 unfolding requestOf
-returns-5 c = simp (ne-eqb _ _ (c .before .before .before .before .before .if1 .left), ne-eqb _ _ (c .before .before .before .before .if2 .left), ne-eqb _ _ (c .before .before .before .if3 .left), ne-eqb _ _ (c .before .before .if4 .left), eq-eqb _ _ (c .before .if5 .taken)) (c .small-number .ensures (lists (c .before .before .before .before .before .before .before .before .before .before .before .before .args .bytes .now) (atomSlots (c .before .before .before .before .before .before .before .before .before .before .before .before .args .starts .now) (c .before .before .before .before .before .before .before .before .before .before .before .before .args .ends .now)) (pairSlots (c .before .before .before .before .before .before .before .before .before .before .before .before .args .firsts .now) (c .before .before .before .before .before .before .before .before .before .before .before .before .args .rests .now))))
+returns-5 c =
+    let (start, else1, else2, else3, else4, then5) : tie.Start × tie.Else1 × tie.Else2 × tie.Else3 × tie.Else4 × tie.Then5 = search in
+    simp (ne-eqb _ _ (else1 .if1 .left), ne-eqb _ _ (else2 .if2 .left), ne-eqb _ _ (else3 .if3 .left), ne-eqb _ _ (else4 .if4 .left), eq-eqb _ _ (then5 .if5 .taken)) (c .small-number .ensures (lists (start .args .bytes .now) (atomSlots (start .args .starts .now) (start .args .ends .now)) (pairSlots (start .args .firsts .now) (start .args .rests .now))))
 
 mark-requires : tie.Need-mark-requires
 mark-requires c κs = search needs
 
 returns-6 : tie.Need-returns-6
 unfolding requestOf
-returns-6 c = simp (ne-eqb _ _ (c .before .before .before .before .before .before .if1 .left), ne-eqb _ _ (c .before .before .before .before .before .if2 .left), ne-eqb _ _ (c .before .before .before .before .if3 .left), ne-eqb _ _ (c .before .before .before .if4 .left), ne-eqb _ _ (c .before .before .if5 .left), eq-eqb _ _ (c .before .if6 .taken)) (c .mark .ensures (lists (c .before .before .before .before .before .before .before .before .before .before .before .before .before .args .bytes .now) (atomSlots (c .before .before .before .before .before .before .before .before .before .before .before .before .before .args .starts .now) (c .before .before .before .before .before .before .before .before .before .before .before .before .before .args .ends .now)) (pairSlots (c .before .before .before .before .before .before .before .before .before .before .before .before .before .args .firsts .now) (c .before .before .before .before .before .before .before .before .before .before .before .before .before .args .rests .now))))
+returns-6 c =
+    let (start, else1, else2, else3, else4, else5, then6) : tie.Start × tie.Else1 × tie.Else2 × tie.Else3 × tie.Else4 × tie.Else5 × tie.Then6 = search in
+    simp (ne-eqb _ _ (else1 .if1 .left), ne-eqb _ _ (else2 .if2 .left), ne-eqb _ _ (else3 .if3 .left), ne-eqb _ _ (else4 .if4 .left), ne-eqb _ _ (else5 .if5 .left), eq-eqb _ _ (then6 .if6 .taken)) (c .mark .ensures (lists (start .args .bytes .now) (atomSlots (start .args .starts .now) (start .args .ends .now)) (pairSlots (start .args .firsts .now) (start .args .rests .now))))
 
 act-later-requires : tie.Need-act-later-requires
 act-later-requires c κs = search needs
@@ -110,7 +122,10 @@ same-length-16 c = search needs
 
 returns-7 : tie.Need-returns-7
 unfolding requestOf
-returns-7 c = simp (ne-eqb _ _ (c .before .before .before .before .before .before .before .before .before .before .before .before .before .before .before .before .before .if1 .left), ne-eqb _ _ (c .before .before .before .before .before .before .before .before .before .before .before .before .before .before .before .before .if2 .left), ne-eqb _ _ (c .before .before .before .before .before .before .before .before .before .before .before .before .before .before .before .if3 .left), ne-eqb _ _ (c .before .before .before .before .before .before .before .before .before .before .before .before .before .before .if4 .left), ne-eqb _ _ (c .before .before .before .before .before .before .before .before .before .before .before .before .before .if5 .left), ne-eqb _ _ (c .before .before .before .before .before .before .before .before .before .before .before .before .if6 .left)) (c .before .before .before .before .before .before .act-later .ensures)
+returns-7 c =
+    let (else1, else2, else3, else4, else5, else6, act-later) :
+    tie.Else1 × tie.Else2 × tie.Else3 × tie.Else4 × tie.Else5 × tie.Else6 × tie.After-act-later = search in
+    simp (ne-eqb _ _ (else1 .if1 .left), ne-eqb _ _ (else2 .if2 .left), ne-eqb _ _ (else3 .if3 .left), ne-eqb _ _ (else4 .if4 .left), ne-eqb _ _ (else5 .if5 .left), ne-eqb _ _ (else6 .if6 .left)) (act-later .act-later .ensures)
 
 pub act-spec : {M : Type 1} → statement M
 act-spec =

@@ -17,7 +17,9 @@ size-of-requires : tie.Need-size-of-requires
 size-of-requires c κs = search needs
 
 returns : tie.Need-returns
-returns c = simp (c .before .row-of .ensures, c .size-of .ensures)
+returns c =
+    let row-of : tie.After-row-of = search in
+    simp (row-of .row-of .ensures, c .size-of .ensures)
 
 pub close-spec : {M : Type 1} → statement M
 close-spec = tie.close (tie.spec add-n row-of-requires size-of-requires returns)

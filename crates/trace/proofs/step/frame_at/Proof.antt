@@ -20,14 +20,18 @@ add-if2 c = search needs
 
 returns-2 : tie.Need-returns-2
 unfolding frameOf
-returns-2 c = simp (le-ltb _ _ (c .before .before .if1 .left), ← (c .before .u16-at .ensures .0), lt-ltb _ _ (c .if2 .taken))
+returns-2 c =
+    let (else1, u16-at) : tie.Else1 × tie.After-u16-at = search in
+    simp (le-ltb _ _ (else1 .if1 .left), ← (u16-at .u16-at .ensures .0), lt-ltb _ _ (c .if2 .taken))
 
 u16-at-requires-2 : tie.Need-u16-at-requires-2
 u16-at-requires-2 c κs = search needs
 
 returns-3 : tie.Need-returns-3
 unfolding frameOf
-returns-3 c = simp (le-ltb _ _ (c .before .before .before .if1 .left), ← (c .before .before .u16-at .ensures .0), ← (c .u16-at2 .ensures .0), le-ltb _ _ (c .before .if2 .left))
+returns-3 c =
+    let (else1, u16-at, else2) : tie.Else1 × tie.After-u16-at × tie.Else2 = search in
+    simp (le-ltb _ _ (else1 .if1 .left), ← (u16-at .u16-at .ensures .0), ← (c .u16-at2 .ensures .0), le-ltb _ _ (else2 .if2 .left))
 
 pub frame-at-spec : {M : Type 1} → statement M
 frame-at-spec =

@@ -20,10 +20,11 @@ use Rattle.trace.proofs.step.frame_at.Reads as frame-at-reads
 
 able : (c : tie.After-act) → (c .act .result .machine .shown < 18446744073709551615) × Limits (c .act .result .machine .state)
 able c =
-    let s = c .before .before .before .before .before .before .before .before .before .before .before .before .before .before .before .before .before .args in
-    closable (s .m) _ (c .before .before .before .before .before .before .before .before .before .before .before .before .before .before .before .before .before .pre .sane .rows-shown)
+    let (start, shared-slice-known, frame) : tie.Start × tie.After-shared-slice-known × tie.After-frame = search in
+    let s = start .args in
+    closable (s .m) _ (start .pre .sane .rows-shown)
     (subst (Kept (s .m)) (sym (c .act .ensures))
-    (kind-kept (s .m) _ (c .before .before .before .before .before .before .before .before .before .before .before .before .before .before .before .before .before .pre) (c .before .before .before .before .before .before .before .before .frame .given .0 .0) _ (part-octets (4 + c .before .before .before .before .before .before .before .before .frame .given .0 .1 .0 - 4) 4 (s .rest .now) (λ i. omega (arith, c .before .before .before .before .before .before .before .before .before .before .before .shared-slice-known .given i)))))
+    (kind-kept (s .m) _ (start .pre) (frame .frame .given .0 .0) _ (part-octets (4 + frame .frame .given .0 .1 .0 - 4) 4 (s .rest .now) (λ i. omega (arith, shared-slice-known .shared-slice-known .given i)))))
 
 frame-at-requires : tie.Need-frame-at-requires
 frame-at-requires c κs = search needs
@@ -38,15 +39,27 @@ bad-requires : tie.Need-bad-requires
 bad-requires c κs = search needs
 
 close-requires : tie.Need-close-requires
-close-requires c κs = simp (c .bad .ensures) (omega (arith, c .before .before .before .before .before .before .before .before .before .before .pre .sane .rows-shown), c .before .before .before .before .before .before .before .before .before .before .pre .sane .limits)
+close-requires c κs =
+    let start : tie.Start = search in
+    simp (c .bad .ensures) (omega (arith, start .pre .sane .rows-shown), start .pre .sane .limits)
 
 returns : tie.Need-returns
 returns c =
-    let e = sym (c .before .before .before .before .frame-at .ensures) ∙ c .before .before .enum-told .given .1 in
-    simp (e, c .close .ensures, c .before .bad .ensures)
+    let (frame-at, told, bad) : tie.After-frame-at × tie.After-enum-told × tie.After-bad = search in
+    let e = sym (frame-at .frame-at .ensures) ∙ told .enum-told .given .1 in
+    simp (e, c .close .ensures, bad .bad .ensures)
+
+abbrev start-of : tie.After-known-told → tie.Start
+start-of c = search
+
+abbrev frame-of : tie.After-known-told → tie.After-frame
+frame-of c = search
+
+abbrev frame-at-of : tie.After-known-told → tie.After-frame-at
+frame-at-of c = search
 
 add-end : tie.Need-add-end
-add-end c = omega (arith, frame-fits (c .before .before .before .before .before .before .before .before .before .before .args .rest .now) (c .before .frame .given .0 .0) (c .before .frame .given .0 .1 .0) (sym (c .before .before .before .frame-at .ensures) ∙ c .before .frame .given .1))
+add-end c = omega (arith, frame-fits (start-of c .args .rest .now) (frame-of c .frame .given .0 .0) (frame-of c .frame .given .0 .1 .0) (sym (frame-at-of c .frame-at .ensures) ∙ frame-of c .frame .given .1))
 
 sub-act : tie.Need-sub-act
 sub-act c = search needs
@@ -55,15 +68,18 @@ part-act-start : tie.Need-part-act-start
 part-act-start c = search needs
 
 part-act-end : tie.Need-part-act-end
-part-act-end c = omega (arith, frame-fits (c .before .before .before .before .before .before .before .before .before .before .before .before .before .before .before .args .rest .now) (c .before .before .before .before .before .before .frame .given .0 .0) (c .before .before .before .before .before .before .frame .given .0 .1 .0) (sym (c .before .before .before .before .before .before .before .before .frame-at .ensures) ∙ c .before .before .before .before .before .before .frame .given .1))
+part-act-end c =
+    let (start, frame-at, frame) : tie.Start × tie.After-frame-at × tie.After-frame = search in
+    omega (arith, frame-fits (start .args .rest .now) (frame .frame .given .0 .0) (frame .frame .given .0 .1 .0) (sym (frame-at .frame-at .ensures) ∙ frame .frame .given .1))
 
 act-requires : tie.Need-act-requires
 act-requires c κs =
-    let h = frame-short (c .before .before .before .before .before .before .before .before .before .before .before .before .before .before .before .before .args .rest .now) (c .before .before .before .before .before .before .before .frame .given .0 .0) (c .before .before .before .before .before .before .before .frame .given .0 .1 .0) (λ i. omega (arith, c .before .before .before .before .before .before .before .before .before .before .shared-slice-known .given i)) (sym (c .before .before .before .before .before .before .before .before .before .frame-at .ensures) ∙ c .before .before .before .before .before .before .before .frame .given .1) in
-    (c .before .before .before .before .before .before .before .before .before .before .before .before .before .before .before .before .pre .sane, simp (length-take, length-drop) (omega (arith, h)))
+    let (start, shared-slice-known, frame-at, frame) : tie.Start × tie.After-shared-slice-known × tie.After-frame-at × tie.After-frame = search in
+    let h = frame-short (start .args .rest .now) (frame .frame .given .0 .0) (frame .frame .given .0 .1 .0) (λ i. omega (arith, shared-slice-known .shared-slice-known .given i)) (sym (frame-at .frame-at .ensures) ∙ frame .frame .given .1) in
+    (start .pre .sane, simp (length-take, length-drop) (omega (arith, h)))
 
 close-requires-2 : tie.Need-close-requires-2
-close-requires-2 c κs = able (c .before .before .before .before .before .before .before .before .before .before)
+close-requires-2 c κs = able (search)
 
 same-length : tie.Need-same-length
 same-length c = search needs
@@ -80,12 +96,17 @@ same-length-4 c = search needs
 same-length-5 : tie.Need-same-length-5
 same-length-5 c = search needs
 
+abbrev earlier : tie.After-bytes → tie.After-frame-at × tie.After-frame × tie.After-act
+earlier c = search
+
 returns-2 : tie.Need-returns-2
 returns-2 c =
-    let e = sym (c .before .before .before .before .before .before .before .before .before .before .before .before .before .before .before .before .before .before .before .before .before .frame-at .ensures) ∙ c .before .before .before .before .before .before .before .before .before .before .before .before .before .before .before .before .before .before .before .frame .given .1 in
-    let len = c .before .before .before .before .before .before .before .before .before .before .before .before .before .before .before .before .before .before .before .frame .given .0 .1 .0 in
+    let bytes : tie.After-bytes = search in
+    let (frame-at, frame, act) = earlier bytes in
+    let e = sym (frame-at .frame-at .ensures) ∙ frame .frame .given .1 in
+    let len = frame .frame .given .0 .1 .0 in
     let n : 4 + len - 4 ≡ len = omega arith in
-    simp (e, c .close2 .ensures) (ap (λ (x : Acted). closedOn x (4 + len)) (simp n at (c .before .before .before .before .before .before .before .before .before .before .before .act .ensures)))
+    simp (e, c .close2 .ensures) (ap (λ (x : Acted). closedOn x (4 + len)) (simp n at (act .act .ensures)))
 
 pub take-step-spec : {M : Type 1} → statement M
 take-step-spec =

@@ -28,11 +28,35 @@ answered-requires c κs = search needs
 sums-requires : tie.Need-sums-requires
 sums-requires c κs = search needs
 
+abbrev start-of : tie.After-starts → tie.Start
+start-of c = search
+
 slice-relend-prefix-save : tie.Need-slice-relend-prefix-save
-slice-relend-prefix-save c = omega (arith, c .before .before .before .before .before .before .before .before .before .before .before .before .before .before .before .before .before .before .before .before .before .before .before .before .before .before .before .before .before .before .before .before .before .before .before .before .before .before .pre)
+slice-relend-prefix-save c =
+    let starts : tie.After-starts = search in
+    let start = start-of starts in
+    omega (arith, start .pre)
+
+abbrev sums-arg-of : tie.After-save-arg5 → tie.After-sums-arg
+sums-arg-of c = search
+
+abbrev starts-of : tie.After-sums-arg → tie.After-starts
+starts-of c = search
+
+abbrev load-arg-of : tie.After-starts → tie.After-load-arg
+load-arg-of c = search
+
+abbrev start-of-load-arg : tie.After-load-arg → tie.Start
+start-of-load-arg c = search
 
 slice-aggregate-save : tie.Need-slice-aggregate-save
-slice-aggregate-save c = sym (length-take-le (c .before .before .before .before .before .before .before .before .before .before .before .before .before .before .before .before .before .before .before .before .before .before .before .before .before .before .before .before .before .before .before .before .before .before .before .before .before .before .before .args .room) (now (c .before .before .before .before .before .before .before .before .before .before .before .before .before .before .before .before .before .before .before .before .before .before .before .before .before .before .before .before .before .before .before .before .before .before .before .before .before .before .before .args .file)) (slice-relend-prefix-save (c .before)))
+slice-aggregate-save c =
+    let save-arg5 : tie.After-save-arg5 = search in
+    let sums-arg = sums-arg-of save-arg5 in
+    let starts = starts-of sums-arg in
+    let load-arg = load-arg-of starts in
+    let start = start-of-load-arg load-arg in
+    sym (length-take-le (start .args .room) (now (start .args .file)) (slice-relend-prefix-save save-arg5))
 
 save-requires : tie.Need-save-requires
 save-requires c κs = search needs
@@ -41,19 +65,29 @@ written-requires : tie.Need-written-requires
 written-requires c κs = search needs
 
 same-length : tie.Need-same-length
-same-length c = c .before .before .before .before .before .before .before .before .before .before .before .before .before .before .before .before .before .before .before .before .before .before .before .before .before .before .before .load .kept .1 .0
+same-length c =
+    let load : tie.After-load = search in
+    load .load .kept .1 .0
 
 same-length-2 : tie.Need-same-length-2
-same-length-2 c = c .before .before .before .before .before .before .before .before .before .before .before .before .before .before .before .before .before .before .before .before .before .before .before .before .before .before .before .load .kept .1 .1 .0
+same-length-2 c =
+    let load : tie.After-load = search in
+    load .load .kept .1 .1 .0
 
 same-length-3 : tie.Need-same-length-3
-same-length-3 c = c .before .before .before .before .before .before .before .before .before .before .before .before .before .before .before .before .before .before .before .before .before .before .before .before .before .before .before .load .kept .1 .1 .1 .0
+same-length-3 c =
+    let load : tie.After-load = search in
+    load .load .kept .1 .1 .1 .0
 
 same-length-4 : tie.Need-same-length-4
-same-length-4 c = c .before .before .before .before .before .before .before .before .before .before .before .before .before .before .before .before .before .before .before .before .before .before .before .before .before .before .before .load .kept .1 .1 .1 .1 .0
+same-length-4 c =
+    let load : tie.After-load = search in
+    load .load .kept .1 .1 .1 .1 .0
 
 same-length-5 : tie.Need-same-length-5
-same-length-5 c = c .before .before .before .before .before .before .before .before .before .before .before .before .before .before .before .before .before .before .before .before .before .before .before .before .before .before .before .load .kept .1 .1 .1 .1 .1 .0
+same-length-5 c =
+    let load : tie.After-load = search in
+    load .load .kept .1 .1 .1 .1 .1 .0
 
 same-length-6 : tie.Need-same-length-6
 same-length-6 c = search needs

@@ -36,34 +36,54 @@ end-of-requires : tie.Need-end-of-requires
 end-of-requires c κs = search needs
 
 slice-relend-prefix-both : tie.Need-slice-relend-prefix-both
-slice-relend-prefix-both c = c .before .before .before .before .before .before .lent .ensures
+slice-relend-prefix-both c =
+    let lent : tie.After-lent = search in
+    lent .lent .ensures
 
 slice-aggregate-both : tie.Need-slice-aggregate-both
-slice-aggregate-both c = sym (length-take-le (c .before .before .before .before .before .before .before .lent .result) (now (c .before .before .before .before .before .before .before .before .before .before .before .before .before .before .before .args .bytes)) (c .before .before .before .before .before .before .before .lent .ensures))
+slice-aggregate-both c =
+    let (start, lent) : tie.Start × tie.After-lent = search in
+    sym (length-take-le (lent .lent .result) (now (start .args .bytes)) (lent .lent .ensures))
 
 slice-relend-prefix-both-2 : tie.Need-slice-relend-prefix-both-2
-slice-relend-prefix-both-2 c = c .before .before .before .before .before .before .lent2 .ensures
+slice-relend-prefix-both-2 c =
+    let lent2 : tie.After-lent2 = search in
+    lent2 .lent2 .ensures
 
 slice-aggregate-both-2 : tie.Need-slice-aggregate-both-2
-slice-aggregate-both-2 c = sym (length-take-le (c .before .before .before .before .before .before .before .lent2 .result) (now (c .before .before .before .before .before .before .before .before .before .before .before .before .before .before .before .before .args .starts)) (c .before .before .before .before .before .before .before .lent2 .ensures))
+slice-aggregate-both-2 c =
+    let (start, lent2) : tie.Start × tie.After-lent2 = search in
+    sym (length-take-le (lent2 .lent2 .result) (now (start .args .starts)) (lent2 .lent2 .ensures))
 
 slice-relend-prefix-both-3 : tie.Need-slice-relend-prefix-both-3
-slice-relend-prefix-both-3 c = c .before .before .before .before .before .before .lent3 .ensures
+slice-relend-prefix-both-3 c =
+    let lent3 : tie.After-lent3 = search in
+    lent3 .lent3 .ensures
 
 slice-aggregate-both-3 : tie.Need-slice-aggregate-both-3
-slice-aggregate-both-3 c = sym (length-take-le (c .before .before .before .before .before .before .before .lent3 .result) (now (c .before .before .before .before .before .before .before .before .before .before .before .before .before .before .before .before .before .args .ends)) (c .before .before .before .before .before .before .before .lent3 .ensures))
+slice-aggregate-both-3 c =
+    let (start, lent3) : tie.Start × tie.After-lent3 = search in
+    sym (length-take-le (lent3 .lent3 .result) (now (start .args .ends)) (lent3 .lent3 .ensures))
 
 slice-relend-prefix-both-4 : tie.Need-slice-relend-prefix-both-4
-slice-relend-prefix-both-4 c = c .before .before .before .before .before .before .lent4 .ensures
+slice-relend-prefix-both-4 c =
+    let lent4 : tie.After-lent4 = search in
+    lent4 .lent4 .ensures
 
 slice-aggregate-both-4 : tie.Need-slice-aggregate-both-4
-slice-aggregate-both-4 c = sym (length-take-le (c .before .before .before .before .before .before .before .lent4 .result) (now (c .before .before .before .before .before .before .before .before .before .before .before .before .before .before .before .before .before .before .args .firsts)) (c .before .before .before .before .before .before .before .lent4 .ensures))
+slice-aggregate-both-4 c =
+    let (start, lent4) : tie.Start × tie.After-lent4 = search in
+    sym (length-take-le (lent4 .lent4 .result) (now (start .args .firsts)) (lent4 .lent4 .ensures))
 
 slice-relend-prefix-both-5 : tie.Need-slice-relend-prefix-both-5
-slice-relend-prefix-both-5 c = c .before .before .before .before .before .before .lent5 .ensures
+slice-relend-prefix-both-5 c =
+    let lent5 : tie.After-lent5 = search in
+    lent5 .lent5 .ensures
 
 slice-aggregate-both-5 : tie.Need-slice-aggregate-both-5
-slice-aggregate-both-5 c = sym (length-take-le (c .before .before .before .before .before .before .before .lent5 .result) (now (c .before .before .before .before .before .before .before .before .before .before .before .before .before .before .before .before .before .before .before .args .rests)) (c .before .before .before .before .before .before .before .lent5 .ensures))
+slice-aggregate-both-5 c =
+    let (start, lent5) : tie.Start × tie.After-lent5 = search in
+    sym (length-take-le (lent5 .lent5 .result) (now (start .args .rests)) (lent5 .lent5 .ensures))
 
 both-requires : tie.Need-both-requires
 both-requires c κs = search needs
@@ -71,23 +91,55 @@ both-requires c κs = search needs
 sum-requires : tie.Need-sum-requires
 sum-requires c κs = search needs
 
+abbrev earlier : tie.After-both → tie.Start × tie.After-lent
+earlier c = search
+
 same-length : tie.Need-same-length
-same-length c = back (c .before .before .before .before .before .before .before .before .before .before .before .before .before .before .before .before .before .before .before .before .before .before .before .before .before .before .before .lent .result) (c .before .before .before .before .before .before .before .before .before .before .before .before .before .before .both .last .1 .0) (now (c .before .before .before .before .before .before .before .before .before .before .before .before .before .before .before .before .before .before .before .before .before .before .before .before .before .before .before .before .before .before .before .before .before .before .before .args .bytes)) (c .before .before .before .before .before .before .before .before .before .before .before .before .before .before .both .kept .1 .0)
+same-length c =
+    let both : tie.After-both = search in
+    let (start, lent) = earlier both in
+    back (lent .lent .result) (both .both .last .1 .0) (now (start .args .bytes)) (both .both .kept .1 .0)
+
+abbrev earlier-both : tie.After-both → tie.Start × tie.After-lent2
+earlier-both c = search
 
 same-length-2 : tie.Need-same-length-2
-same-length-2 c = back (c .before .before .before .before .before .before .before .before .before .before .before .before .before .before .before .before .before .before .before .before .before .before .before .before .before .before .lent2 .result) (c .before .before .before .before .before .before .before .before .before .before .before .before .before .before .both .last .1 .1 .0) (now (c .before .before .before .before .before .before .before .before .before .before .before .before .before .before .before .before .before .before .before .before .before .before .before .before .before .before .before .before .before .before .before .before .before .before .before .args .starts)) (c .before .before .before .before .before .before .before .before .before .before .before .before .before .before .both .kept .1 .1 .0)
+same-length-2 c =
+    let both : tie.After-both = search in
+    let (start, lent2) = earlier-both both in
+    back (lent2 .lent2 .result) (both .both .last .1 .1 .0) (now (start .args .starts)) (both .both .kept .1 .1 .0)
+
+abbrev earlier2 : tie.After-both → tie.Start × tie.After-lent3
+earlier2 c = search
 
 same-length-3 : tie.Need-same-length-3
-same-length-3 c = back (c .before .before .before .before .before .before .before .before .before .before .before .before .before .before .before .before .before .before .before .before .before .before .before .before .before .lent3 .result) (c .before .before .before .before .before .before .before .before .before .before .before .before .before .before .both .last .1 .1 .1 .0) (now (c .before .before .before .before .before .before .before .before .before .before .before .before .before .before .before .before .before .before .before .before .before .before .before .before .before .before .before .before .before .before .before .before .before .before .before .args .ends)) (c .before .before .before .before .before .before .before .before .before .before .before .before .before .before .both .kept .1 .1 .1 .0)
+same-length-3 c =
+    let both : tie.After-both = search in
+    let (start, lent3) = earlier2 both in
+    back (lent3 .lent3 .result) (both .both .last .1 .1 .1 .0) (now (start .args .ends)) (both .both .kept .1 .1 .1 .0)
+
+abbrev earlier3 : tie.After-both → tie.Start × tie.After-lent4
+earlier3 c = search
 
 same-length-4 : tie.Need-same-length-4
-same-length-4 c = back (c .before .before .before .before .before .before .before .before .before .before .before .before .before .before .before .before .before .before .before .before .before .before .before .before .lent4 .result) (c .before .before .before .before .before .before .before .before .before .before .before .before .before .before .both .last .1 .1 .1 .1 .0) (now (c .before .before .before .before .before .before .before .before .before .before .before .before .before .before .before .before .before .before .before .before .before .before .before .before .before .before .before .before .before .before .before .before .before .before .before .args .firsts)) (c .before .before .before .before .before .before .before .before .before .before .before .before .before .before .both .kept .1 .1 .1 .1 .0)
+same-length-4 c =
+    let both : tie.After-both = search in
+    let (start, lent4) = earlier3 both in
+    back (lent4 .lent4 .result) (both .both .last .1 .1 .1 .1 .0) (now (start .args .firsts)) (both .both .kept .1 .1 .1 .1 .0)
+
+abbrev earlier4 : tie.After-both → tie.Start × tie.After-lent5
+earlier4 c = search
 
 same-length-5 : tie.Need-same-length-5
-same-length-5 c = back (c .before .before .before .before .before .before .before .before .before .before .before .before .before .before .before .before .before .before .before .before .before .before .before .lent5 .result) (c .before .before .before .before .before .before .before .before .before .before .before .before .before .before .both .last .1 .1 .1 .1 .1 .0) (now (c .before .before .before .before .before .before .before .before .before .before .before .before .before .before .before .before .before .before .before .before .before .before .before .before .before .before .before .before .before .before .before .before .before .before .before .args .rests)) (c .before .before .before .before .before .before .before .before .before .before .before .before .before .before .both .kept .1 .1 .1 .1 .1 .0)
+same-length-5 c =
+    let both : tie.After-both = search in
+    let (start, lent5) = earlier4 both in
+    back (lent5 .lent5 .result) (both .both .last .1 .1 .1 .1 .1 .0) (now (start .args .rests)) (both .both .kept .1 .1 .1 .1 .1 .0)
 
 same-length-6 : tie.Need-same-length-6
-same-length-6 c = c .before .before .before .before .before .before .before .before .before .before .before .before .before .before .both .kept .1 .1 .1 .1 .1 .1 .0
+same-length-6 c =
+    let both : tie.After-both = search in
+    both .both .kept .1 .1 .1 .1 .1 .1 .0
 
 returns : tie.Need-returns
 returns c = search needs
