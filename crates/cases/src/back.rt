@@ -23,7 +23,7 @@ pub fn cut(
     op: u64,
     p: &[u8],
 ) -> Changed {
-    let used = super::look::mark(p);
+    let used = super::look::counts_at(p);
     if op == 49 {
         let left = ghosts(p);
         let k = Checkpoint { used, ghosts: left };
@@ -41,7 +41,7 @@ pub fn maybe(
     rests: &[u32],
     p: &[u8],
 ) -> Restored {
-    let k = super::look::mark(p);
+    let k = super::look::counts_at(p);
     let n = super::table::node(p, 3);
     restores::maybe_restore_with_node(a, bytes, starts, ends, firsts, rests, k, n)
 }

@@ -5,7 +5,7 @@ use rules::Allocator;
 use rules::Counts;
 
 // A transparent checkpoint, given by its bytes, atoms and pairs.
-pub fn mark(p: &[u8]) -> Counts {
+pub fn counts_at(p: &[u8]) -> Counts {
     Counts {
         atoms: super::table::number(p, 1),
         pairs: super::table::number(p, 2),
@@ -80,7 +80,7 @@ fn atoms(a: Allocator, bytes: &[u8], starts: &[u32], ends: &[u32], op: u64, p: &
         a,
         starts,
         ends,
-        mark(p),
+        counts_at(p),
         super::table::node(p, 3),
     ));
 }

@@ -46,7 +46,7 @@ fn look(a: Allocator, op: u64, p: &[u8]) {
         return;
     }
     if op == 24 {
-        super::show::marked(state::transparent_checkpoint(a));
+        super::show::taken_counts(state::transparent_checkpoint(a));
         return;
     }
     if op < 30 {

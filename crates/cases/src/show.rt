@@ -6,7 +6,6 @@ use rules::Code;
 use rules::Counts;
 use rules::Fits;
 use rules::Made;
-use rules::Marked;
 use rules::MaybeRestore;
 use rules::Next;
 use rules::NodeStatus;
@@ -17,6 +16,7 @@ use rules::Restored;
 use rules::SExp;
 use rules::SmallNumber;
 use rules::Taken;
+use rules::TakenCounts;
 use rules::Truth;
 use rules::Verdict;
 
@@ -198,13 +198,13 @@ pub fn taken(x: Taken) {
     }
 }
 
-pub fn marked(x: Marked) {
+pub fn taken_counts(x: TakenCounts) {
     match x {
-        Marked::Transparent(k) => {
+        TakenCounts::Transparent(k) => {
             done();
             counts(k);
         }
-        Marked::Refused(code, node) => refused(code, node),
+        TakenCounts::Refused(code, node) => refused(code, node),
     }
 }
 

@@ -31,7 +31,7 @@ fn fresh() -> Bench {
 }
 
 fn with_record(m: Bench, p: &[u8]) -> Bench {
-    let used = super::look::mark(p);
+    let used = super::look::counts_at(p);
     let ghosts = super::back::ghosts(p);
     let a = Allocator {
         used,

@@ -1,6 +1,6 @@
 // An entry of a table: one byte for the operation, two for the entry's length, then numbers of eight bytes each, little-endian, and for some
 // operations a string of bytes behind them. What is missing reads as 0.
-ghost use Prim.Native.Nat.{_<_, _≤_};
+ghost use Prim.Native.Nat.{_<_};
 
 fn wide(x: u8) -> u64
     ensures { λ r. ⌜ r < 256 ⌝ }

@@ -12,7 +12,7 @@ use Rattle.rules.specs.State.{Lists}
 use Rattle.rules.specs.Load.{Reading}
 use Rattle.rules.specs.Save.{Saving}
 use Rattle.rules.specs.Restores.{Restoring, noReplace, replace, aborted}
-use Rattle.rows.specs.Rows.{recordRow}
+use Rattle.words.specs.Words.{recordWords}
 use Rattle.clvm_allocator.specs.declared.answers.CNumber.{CNumber}
 use Rattle.clvm_allocator.specs.declared.answers.COption.{COption}
 use Rattle.clvm_allocator.specs.declared.answers.CVisited.{CVisited}
@@ -101,28 +101,28 @@ restoredC (says (replace n)) = went n 1
 restoredC (says aborted) = went nil 2
 restoredC (refuses code node) = record { code = code; node = node; outcome = 0 }
 
--- all that a call gives: its answer, the row (a record's, a checkpoint's, a file's) that it was lent for writing, and the lists, as it leaves them
+-- all that a call gives: its answer, what else it was lent for writing (a record's words, a checkpoint's, a file), and the lists, as it leaves them
 pub record Given (R L : Type 0) : Type 0 where
   pub answer : R
-  pub row : List ℕ
+  pub written : List ℕ
   pub lent : L
 
 abbrev pub given : {R L : Type 0} → R → List ℕ → L → Given R L
-given r row s = record { answer = r; row = row; lent = s }
+given r written s = record { answer = r; written = written; lent = s }
 
--- a call that may change the record: its answer as numbers, and the record as a row
+-- a call that may change the record: its answer as numbers, and the record in words
 abbrev pub crossed : {A R L : Type 0} → (Said A → R) → Out A L → Given R L
-crossed f o = given (f (o .said)) (recordRow (o .rec)) (o .lent)
+crossed f o = given (f (o .said)) (recordWords (o .rec)) (o .lent)
 
--- a load: its answer and place, the record as a row, and all five lists
+-- a load: its answer and place, the record in words, and all five lists
 abbrev pub readC : Reading → Given CLoaded Lists
-readC r = given (loadedC (r .said) (r .at)) (recordRow (r .rec)) (r .lists)
+readC r = given (loadedC (r .said) (r .at)) (recordWords (r .rec)) (r .lists)
 
 -- a save: the length, and the slice that was lent for the file
 abbrev pub writtenC : Saving → Given CNumber NoLists
 writtenC r = given (numberC (r .said)) (r .file) noLists
 
--- a call that takes a checkpoint: a refusal leaves the checkpoint's row as it was
+-- a call that takes a checkpoint: a refusal leaves the checkpoint's words as they were
 abbrev pub takenC : {K : Type 0} → (K → List ℕ) → List ℕ → Said K → Given CAnswer NoLists
-takenC row old (says k) = given (doneC (says done)) (row k) noLists
-takenC row old (refuses code node) = given (doneC (refuses code node)) old noLists
+takenC words old (says k) = given (doneC (says done)) (words k) noLists
+takenC words old (refuses code node) = given (doneC (refuses code node)) old noLists

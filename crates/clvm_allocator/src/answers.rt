@@ -1,4 +1,5 @@
-// The answers that cross to C: no enum crosses. On a refusal every value is 0, but for the place in CLoaded; where a call is accepted, node is nil if it made none.
+// The answers that cross to C: no enum crosses. On a refusal every value is 0, but for the place in CLoaded; where a call is
+// accepted, node is nil if it made none.
 
 // A number; yes is 1 and no is 0.
 #[repr(C)]
@@ -57,7 +58,7 @@ pub struct CStatus {
     pub end: usize,
 }
 
-// The node that a call made; what the call did to the record stands in the record's row.
+// The node that a call made; what the call did to the record stands in the record's words.
 #[repr(C)]
 pub struct CAnswer {
     pub code: u32,

@@ -23,8 +23,10 @@ use rules::Truth;
 use rules::Verdict;
 ghost use mathlib.Core.Path.{_≡_};
 ghost use Rattle.rules.specs.Said.{says, refuses, saysOf, done};
-ghost use Rattle.rules.specs.Paper.{codeNumber, numberPaper, truthPaper, objectTypePaper, fitsPaper, smallNumberPaper, visitorPaper, sexpPaper, statusPaper, answerPaper, verdictPaper, maybePaper};
-ghost use Rattle.clvm_allocator.specs.Answers.{bit, kindNumber, numberC, optionC, visitedC, childrenC, partAt, partC, standing, statusC, answerC, loadedC, doneC, went, restoredC};
+ghost use Rattle.rules.specs.Paper.{codeNumber, numberPaper, truthPaper, objectTypePaper, fitsPaper, smallNumberPaper, visitorPaper, sexpPaper, statusPaper};
+ghost use Rattle.rules.specs.Paper.{answerPaper, verdictPaper, maybePaper};
+ghost use Rattle.clvm_allocator.specs.Answers.{bit, kindNumber, numberC, optionC, visitedC, childrenC, partAt, partC, standing, statusC, answerC};
+ghost use Rattle.clvm_allocator.specs.Answers.{loadedC, doneC, went, restoredC};
 
 // Numbers, truths and kinds are one struct.
 fn accepted(value: usize) -> CNumber
@@ -120,8 +122,8 @@ pub fn of_visitor(found: NodeVisitor) -> CVisited
             code: 0,
             node: node::NIL,
             kind: 0,
-            first: arg::wide(first),
-            second: arg::wide(rest),
+            first: node::wide(first),
+            second: node::wide(rest),
         },
         NodeVisitor::Buffer(start, end) => CVisited {
             code: 0,
@@ -134,7 +136,7 @@ pub fn of_visitor(found: NodeVisitor) -> CVisited
             code: 0,
             node: node::NIL,
             kind: 2,
-            first: arg::wide(v),
+            first: node::wide(v),
             second: 0,
         },
         NodeVisitor::Refused(code, node) => CVisited {

@@ -7,7 +7,8 @@ ghost use Prim.Native.Nat.{_+_, _-_, _≤_, _<_};
 ghost use lib.ListN.{length};
 ghost use lib.Seq.{slice};
 ghost use Rattle.rules.specs.Small.{lenFor, smallBytes};
-ghost use Rattle.rules.specs.State.{store, atomSlots, over};
+ghost use Rattle.rules.specs.State.{over};
+ghost use Rattle.rules.specs.Lent.{atomSlotsIn, storeIn, AtomsWithin};
 ghost use Rattle.rules.specs.Reads.{atomOf};
 ghost use Rattle.rules.specs.Creates.{termBytes, joined};
 
@@ -47,10 +48,11 @@ fn copy_term(
     n: u32,
     at: usize,
 ) -> usize
-    requires { ⌜ (a .used .atoms ≤ length (now starts)) × (a .used .atoms ≤ length (now ends)) × (a .used .bytes ≤ at) ⌝ }
-    requires { ⌜ at + length (termBytes (now bytes) (atomOf a (atomSlots (now starts) (now ends)) n)) ≤ length (now bytes) ⌝ }
-    ensures { λ r. ⌜ now (bytes .exit) ≡ over (now (bytes .entry)) at (termBytes (now (bytes .entry)) (atomOf a (atomSlots (now (starts .entry)) (now (ends .entry))) n)) ⌝ }
-    ensures { λ r. ⌜ r ≡ at + length (termBytes (now (bytes .entry)) (atomOf a (atomSlots (now (starts .entry)) (now (ends .entry))) n)) ⌝ }
+    requires { ⌜ AtomsWithin a starts ends × (a .used .bytes ≤ at) ⌝ }
+    requires { ⌜ at + length (termBytes (now bytes) (atomOf a (atomSlotsIn starts ends) n)) ≤ length (now bytes) ⌝ }
+    ensures { λ r. ⌜ now (bytes .exit)
+        ≡ over (now (bytes .entry)) at (termBytes (now (bytes .entry)) (atomOf a (atomSlotsIn (starts .entry) (ends .entry)) n)) ⌝ }
+    ensures { λ r. ⌜ r ≡ at + length (termBytes (now (bytes .entry)) (atomOf a (atomSlotsIn (starts .entry) (ends .entry)) n)) ⌝ }
 {
     let found = arg::atom_of(a, starts, ends, n);
     match found {
@@ -65,9 +67,10 @@ fn copy_term(
 
 // All terms, one behind the other, from the end of the used bytes on.
 pub fn copy_terms(a: Allocator, bytes: &mut [u8], starts: &[u32], ends: &[u32], nodes: &[u32])
-    requires { ⌜ (a .used .atoms ≤ length (now starts)) × (a .used .atoms ≤ length (now ends)) ⌝ }
-    requires { ⌜ a .used .bytes + length (joined a (store (now bytes) (atomSlots (now starts) (now ends))) (now nodes)) ≤ length (now bytes) ⌝ }
-    ensures { λ _. ⌜ now (bytes .exit) ≡ over (now (bytes .entry)) (a .used .bytes) (joined a (store (now (bytes .entry)) (atomSlots (now (starts .entry)) (now (ends .entry)))) (now (nodes .entry))) ⌝ }
+    requires { ⌜ AtomsWithin a starts ends ⌝ }
+    requires { ⌜ a .used .bytes + length (joined a (storeIn bytes starts ends) (now nodes)) ≤ length (now bytes) ⌝ }
+    ensures { λ _. ⌜ now (bytes .exit)
+        ≡ over (now (bytes .entry)) (a .used .bytes) (joined a (storeIn (bytes .entry) (starts .entry) (ends .entry)) (now (nodes .entry))) ⌝ }
 {
     let mut at = a.used.bytes;
     let mut i = 0;

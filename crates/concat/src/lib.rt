@@ -17,19 +17,18 @@ ghost use mathlib.Core.Bool.{true};
 ghost use mathlib.Core.List.{List, [], _∷_};
 ghost use Prim.Native.Nat.{ℕ, _+_, _≤_, _<_};
 ghost use lib.ListN.{length};
-ghost use Rattle.rules.specs.Said.{out};
-ghost use Rattle.rules.specs.Node.{bytesNode};
-ghost use Rattle.rules.specs.State.{Store, store, atomSlots, usedAtom};
-ghost use Rattle.rules.specs.Creates.{concatTests, storeRoom, putAtom, oneTerm, joined, concatPut, newConcat};
+ghost use Rattle.rules.specs.State.{Store, store};
+ghost use Rattle.rules.specs.Lent.{atomSlotsIn, storeIn, AtomsWithin};
+ghost use Rattle.rules.specs.Creates.{concatTests, storeRoom, oneTerm, joined, concatPut, newConcat};
 ghost use Rattle.rules.specs.Reads.{atomOf};
 ghost use Rattle.rules.specs.Paper.{verdictPaper, made};
-ghost use Rattle.concat.specs.Concat.{Tested, concatAll};
+ghost use Rattle.concat.specs.Concat.{Tested, joinedPut, concatAll};
 
 // What is tested before any node is looked at. A sum past the largest usize is taken as that, which is past every limit.
 fn concat_tests(a: Allocator, bytes: &[u8], starts: &[u32], ends: &[u32], size: usize) -> Verdict
-    ensures { λ r. ⌜ verdictPaper r ≡ concatTests a size (store (now (bytes .entry)) (atomSlots (now (starts .entry)) (now (ends .entry)))) ⌝ }
+    ensures { λ r. ⌜ verdictPaper r ≡ concatTests a size (storeIn (bytes .entry) (starts .entry) (ends .entry)) ⌝ }
 {
-    if sound::store_sound(a, bytes.len(), starts.len(), ends.len()) {
+    if sound::bytes_sound(a, bytes.len(), starts.len(), ends.len()) {
         if sound::MOST <= sound::total(a.used.atoms, a.ghosts.atoms) {
             return Verdict::Refused(Code::TooManyAtoms, node::NIL);
         }
@@ -58,8 +57,8 @@ fn concat_none(a: Allocator, size: usize) -> Made
 
 // Whether an atom has that many bytes.
 fn measure_one(a: Allocator, starts: &[u32], ends: &[u32], size: usize, n: u32) -> Verdict
-    requires { ⌜ (a .used .atoms ≤ length (now starts)) × (a .used .atoms ≤ length (now ends)) ⌝ }
-    ensures { λ r. ⌜ verdictPaper r ≡ oneTerm size (atomOf a (atomSlots (now (starts .entry)) (now (ends .entry))) n) ⌝ }
+    requires { ⌜ AtomsWithin a starts ends ⌝ }
+    ensures { λ r. ⌜ verdictPaper r ≡ oneTerm size (atomOf a (atomSlotsIn (starts .entry) (ends .entry)) n) ⌝ }
 {
     let found = arg::atom_of(a, starts, ends, n);
     match found {
@@ -71,9 +70,10 @@ fn measure_one(a: Allocator, starts: &[u32], ends: &[u32], size: usize, n: u32) 
 
 // One atom joined is that atom, counted as if it had been allocated again.
 fn concat_one(a: Allocator, starts: &[u32], ends: &[u32], size: usize, n: u32) -> Made
-    requires { ⌜ (a .used .atoms ≤ length (now starts)) × (a .used .atoms ≤ length (now ends)) ⌝ }
+    requires { ⌜ AtomsWithin a starts ends ⌝ }
     requires { ⌜ (a .ghosts .atoms < 62500000) × (a .ghosts .bytes + size ≤ 8589934590) ⌝ }
-    ensures { λ r. ⌜ ((b : List ℕ) → made r (store b (atomSlots (now (starts .entry)) (now (ends .entry)))) ≡ concatPut a size (n ∷ []) (store b (atomSlots (now (starts .entry)) (now (ends .entry))))) ⌝ }
+    ensures { λ r. ⌜ ((b : List ℕ) → made r (store b (atomSlotsIn (starts .entry) (ends .entry)))
+        ≡ concatPut a size (n ∷ []) (store b (atomSlotsIn (starts .entry) (ends .entry)))) ⌝ }
 {
     let verdict = measure_one(a, starts, ends, size, n);
     match verdict {
@@ -95,9 +95,10 @@ fn put_joined(
     nodes: &[u32],
 ) -> Made
     requires { ⌜ Tested a size (length (now bytes)) (length (now starts)) (length (now ends)) ⌝ }
-    requires { ⌜ storeRoom a size (store (now bytes) (atomSlots (now starts) (now ends))) ≡ true ⌝ }
-    requires { ⌜ length (joined a (store (now bytes) (atomSlots (now starts) (now ends))) (now nodes)) ≡ size ⌝ }
-    ensures { λ r. ⌜ made r (store (now (bytes .exit)) (atomSlots (now (starts .exit)) (now (ends .exit)))) ≡ out (bytesNode (a .used .atoms)) (usedAtom size a) (putAtom a (joined a (store (now (bytes .entry)) (atomSlots (now (starts .entry)) (now (ends .entry)))) (now (nodes .entry))) (store (now (bytes .entry)) (atomSlots (now (starts .entry)) (now (ends .entry))))) ⌝ }
+    requires { ⌜ storeRoom a size (storeIn bytes starts ends) ≡ true ⌝ }
+    requires { ⌜ length (joined a (storeIn bytes starts ends) (now nodes)) ≡ size ⌝ }
+    ensures { λ r. ⌜ made r (storeIn (bytes .exit) (starts .exit) (ends .exit))
+        ≡ joinedPut a size (now (nodes .entry)) (storeIn (bytes .entry) (starts .entry) (ends .entry)) ⌝ }
 {
     let at = a.used.bytes;
     let slot = a.used.atoms;
@@ -120,7 +121,8 @@ fn concat_all(
     nodes: &[u32],
 ) -> Made
     requires { ⌜ Tested a size (length (now bytes)) (length (now starts)) (length (now ends)) ⌝ }
-    ensures { λ r. ⌜ made r (store (now (bytes .exit)) (atomSlots (now (starts .exit)) (now (ends .exit)))) ≡ concatAll a size (now (nodes .entry)) (store (now (bytes .entry)) (atomSlots (now (starts .entry)) (now (ends .entry)))) ⌝ }
+    ensures { λ r. ⌜ made r (storeIn (bytes .exit) (starts .exit) (ends .exit))
+        ≡ concatAll a size (now (nodes .entry)) (storeIn (bytes .entry) (starts .entry) (ends .entry)) ⌝ }
 {
     let verdict = sizes::measure(a, starts, ends, size, nodes);
     match verdict {
@@ -143,7 +145,8 @@ pub fn new_concat(
     new_size: usize,
     nodes: &[u32],
 ) -> Made
-    ensures { λ r. ⌜ made r (store (now (bytes .exit)) (atomSlots (now (starts .exit)) (now (ends .exit)))) ≡ newConcat a «new_size» (now (nodes .entry)) (store (now (bytes .entry)) (atomSlots (now (starts .entry)) (now (ends .entry)))) ⌝ }
+    ensures { λ r. ⌜ made r (storeIn (bytes .exit) (starts .exit) (ends .exit))
+        ≡ newConcat a «new_size» (now (nodes .entry)) (storeIn (bytes .entry) (starts .entry) (ends .entry)) ⌝ }
 {
     let verdict = concat_tests(a, bytes, starts, ends, new_size);
     match verdict {

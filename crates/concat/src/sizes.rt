@@ -8,10 +8,9 @@ use rules::Verdict;
 ghost use mathlib.Core.Path.{_≡_};
 ghost use Prim.Native.Nat.{_+_, _≤_, min};
 ghost use lib.Dec.{eqb};
-ghost use lib.ListN.{length};
 ghost use Rattle.rules.specs.Node.{nil};
 ghost use Rattle.rules.specs.Said.{need, says, done};
-ghost use Rattle.rules.specs.State.{atomSlots};
+ghost use Rattle.rules.specs.Lent.{atomSlotsIn, AtomsWithin};
 ghost use Rattle.rules.specs.Reads.{atomOf};
 ghost use Rattle.rules.specs.Creates.{scan};
 ghost use Rattle.rules.specs.Paper.{verdictPaper, numberPaper};
@@ -44,9 +43,9 @@ fn add_term(
     counter: usize,
     n: u32,
 ) -> Number
-    requires { ⌜ (a .used .atoms ≤ length (now starts)) × (a .used .atoms ≤ length (now ends)) ⌝ }
+    requires { ⌜ AtomsWithin a starts ends ⌝ }
     requires { ⌜ (a .used .bytes ≤ 4294967295) × (size ≤ 4294967295) × (counter ≤ size + 1) ⌝ }
-    ensures { λ r. ⌜ numberPaper r ≡ ran size n counter (atomOf a (atomSlots (now (starts .entry)) (now (ends .entry))) n) ⌝ }
+    ensures { λ r. ⌜ numberPaper r ≡ ran size n counter (atomOf a (atomSlotsIn (starts .entry) (ends .entry)) n) ⌝ }
 {
     let found = arg::atom_of(a, starts, ends, n);
     match found {
@@ -64,9 +63,9 @@ fn add_term(
 
 // All terms, and at the end their whole length.
 pub fn measure(a: Allocator, starts: &[u32], ends: &[u32], size: usize, nodes: &[u32]) -> Verdict
-    requires { ⌜ (a .used .atoms ≤ length (now starts)) × (a .used .atoms ≤ length (now ends)) ⌝ }
+    requires { ⌜ AtomsWithin a starts ends ⌝ }
     requires { ⌜ (a .used .bytes ≤ 4294967295) × (size ≤ 4294967295) ⌝ }
-    ensures { λ r. ⌜ verdictPaper r ≡ scan a (atomSlots (now (starts .entry)) (now (ends .entry))) size (now (nodes .entry)) 0 ⌝ }
+    ensures { λ r. ⌜ verdictPaper r ≡ scan a (atomSlotsIn (starts .entry) (ends .entry)) size (now (nodes .entry)) 0 ⌝ }
 {
     let mut counter: usize = 0;
     let mut i = 0;

@@ -2,4 +2,3 @@
 pub mod Rooms
 pub mod Numbers
 pub mod Parts
-pub mod ReadBack

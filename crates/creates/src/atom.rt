@@ -8,22 +8,20 @@ use rules::Verdict;
 use state::record;
 use state::sound;
 ghost use mathlib.Core.Path.{_≡_};
-ghost use mathlib.Core.Bool.{_&&_};
 ghost use Prim.Native.Nat.{_+_, _≤_, _<_};
-ghost use lib.Dec.{leb, ltb};
-ghost use lib.ListN.{length};
 ghost use Rattle.rules.specs.Node.{nil};
 ghost use Rattle.rules.specs.Small.{fits, lenFor};
-ghost use Rattle.rules.specs.Said.{says, need, done, noLists};
-ghost use Rattle.rules.specs.State.{limitsSound, atomsFit, bytesFit, store, atomSlots};
-ghost use Rattle.rules.specs.Creates.{heapHolds, atomsLeft, storeAtom, smallOr, newAtom, smallTests, newSmallNumber, newU64, newI64};
+ghost use Rattle.rules.specs.Said.{need, noLists};
+ghost use Rattle.rules.specs.State.{bytesSoundAt};
+ghost use Rattle.rules.specs.Lent.{storeIn};
+ghost use Rattle.rules.specs.Creates.{limitTests, storeRoomAt, storeAtom, smallOr, newAtom, smallTests, newSmallNumber, newU64, newI64};
 ghost use Rattle.rules.specs.Paper.{verdictPaper, made};
 ghost use Rattle.rules.proofs.Limits.{Limits};
 
-// Whether an atom of len bytes is within the limits: 2, then 3.
+// Whether an atom of len bytes is within the limits: 2 out of memory, then 3 too many atoms.
 fn limit_tests(a: Allocator, len: usize) -> Verdict
     requires { ⌜ Limits a ⌝ }
-    ensures { λ r. ⌜ verdictPaper r ≡ need (heapHolds a len) 2 nil (need (atomsLeft a) 3 nil (says done)) ⌝ }
+    ensures { λ r. ⌜ verdictPaper r ≡ limitTests a len ⌝ }
 {
     if a.limit < sound::total(a.used.bytes + a.ghosts.bytes, len) {
         return Verdict::Refused(Code::OutOfMemory, node::NIL);
@@ -34,11 +32,11 @@ fn limit_tests(a: Allocator, len: usize) -> Verdict
     Verdict::Done
 }
 
-// The tests of new_atom beside slices of these lengths: 1, 2, 3.
+// The tests of new_atom beside slices of these lengths: 1 unsound, then the limits.
 fn atom_tests(a: Allocator, len: usize, bytes: usize, starts: usize, ends: usize) -> Verdict
-    ensures { λ r. ⌜ verdictPaper r ≡ need (limitsSound a && atomsFit a starts ends && bytesFit a bytes) 1 nil (need (heapHolds a len) 2 nil (need (atomsLeft a) 3 nil (says done))) ⌝ }
+    ensures { λ r. ⌜ verdictPaper r ≡ need (bytesSoundAt a bytes starts ends) 1 nil (limitTests a len) ⌝ }
 {
-    if sound::store_sound(a, bytes, starts, ends) {
+    if sound::bytes_sound(a, bytes, starts, ends) {
         return limit_tests(a, len);
     }
     Verdict::Refused(Code::Unsound, node::NIL)
@@ -46,7 +44,8 @@ fn atom_tests(a: Allocator, len: usize, bytes: usize, starts: usize, ends: usize
 
 // Whether slices of these lengths can hold len bytes and one slot more.
 pub fn store_room(a: Allocator, len: usize, bytes: usize, starts: usize, ends: usize) -> bool
-    ensures { λ r. ⌜ r ≡ (leb (a .used .bytes + len) 4294967295 && leb (a .used .bytes + len) bytes && (ltb (a .used .atoms) starts && ltb (a .used .atoms) ends)) ⌝ }
+    requires { ⌜ a .used .atoms < 62500000 ⌝ }
+    ensures { λ r. ⌜ r ≡ storeRoomAt a len bytes starts ends ⌝ }
 {
     let end = sound::total(a.used.bytes, len);
     if record::TOP < end {
@@ -55,17 +54,7 @@ pub fn store_room(a: Allocator, len: usize, bytes: usize, starts: usize, ends: u
     if bytes < end {
         return false;
     }
-    slot_room(a.used.atoms, starts, ends)
-}
-
-// Whether two slices of these lengths have a slot n.
-pub fn slot_room(n: usize, one: usize, other: usize) -> bool
-    ensures { λ r. ⌜ r ≡ (ltb n one && ltb n other) ⌝ }
-{
-    if one <= n {
-        return false;
-    }
-    n < other
+    sound::fit(a.used.atoms + 1, starts, ends)
 }
 
 // Bytes and one slot for v, where there is room for them.
@@ -77,7 +66,8 @@ pub fn store_atom(
     v: &[u8],
 ) -> Made
     requires { ⌜ a .used .atoms < 62500000 ⌝ }
-    ensures { λ r. ⌜ made r (store (now (bytes .exit)) (atomSlots (now (starts .exit)) (now (ends .exit)))) ≡ storeAtom a (now (v .entry)) (store (now (bytes .entry)) (atomSlots (now (starts .entry)) (now (ends .entry)))) ⌝ }
+    ensures { λ r. ⌜ made r (storeIn (bytes .exit) (starts .exit) (ends .exit))
+        ≡ storeAtom a (now (v .entry)) (storeIn (bytes .entry) (starts .entry) (ends .entry)) ⌝ }
 {
     if store_room(a, v.len(), bytes.len(), starts.len(), ends.len()) {
         let from = a.used.bytes;
@@ -103,7 +93,8 @@ pub fn small_or(
     counted: usize,
 ) -> Made
     requires { ⌜ (a .used .atoms + a .ghosts .atoms < 62500000) × (a .ghosts .bytes + counted ≤ 8589934590) ⌝ }
-    ensures { λ r. ⌜ made r (store (now (bytes .exit)) (atomSlots (now (starts .exit)) (now (ends .exit)))) ≡ smallOr (fits (now (v .entry))) counted a (now (v .entry)) (store (now (bytes .entry)) (atomSlots (now (starts .entry)) (now (ends .entry)))) ⌝ }
+    ensures { λ r. ⌜ made r (storeIn (bytes .exit) (starts .exit) (ends .exit))
+        ≡ smallOr (fits (now (v .entry))) counted a (now (v .entry)) (storeIn (bytes .entry) (starts .entry) (ends .entry)) ⌝ }
 {
     let fit = node::fits_in_small_atom(v);
     match fit {
@@ -123,7 +114,8 @@ pub fn new_atom(
     ends: &mut [u32],
     v: &[u8],
 ) -> Made
-    ensures { λ r. ⌜ made r (store (now (bytes .exit)) (atomSlots (now (starts .exit)) (now (ends .exit)))) ≡ newAtom a (now (v .entry)) (store (now (bytes .entry)) (atomSlots (now (starts .entry)) (now (ends .entry)))) ⌝ }
+    ensures { λ r. ⌜ made r (storeIn (bytes .exit) (starts .exit) (ends .exit))
+        ≡ newAtom a (now (v .entry)) (storeIn (bytes .entry) (starts .entry) (ends .entry)) ⌝ }
 {
     let tests = atom_tests(a, v.len(), bytes.len(), starts.len(), ends.len());
     match tests {
@@ -132,13 +124,13 @@ pub fn new_atom(
     }
 }
 
-// The tests of new_small_number: 1, 13, 2, 3.
+// The tests of new_small_number: 1 unsound, 13 too large, then the limits.
 fn small_tests(a: Allocator, v: u32, len: usize) -> Verdict
     requires { ⌜ len ≡ lenFor v ⌝ }
     ensures { λ r. ⌜ verdictPaper r ≡ smallTests a v ⌝ }
 {
     if sound::limits_sound(a) {
-        if 67108863 < v {
+        if node::LARGEST_SMALL < v {
             return Verdict::Refused(Code::TooLarge, node::NIL);
         }
         return limit_tests(a, len);
@@ -163,7 +155,8 @@ pub fn new_small_number(a: Allocator, v: u32) -> Made
 
 // A new atom of an unsigned number: its shortest bytes in two's complement.
 pub fn new_u64(a: Allocator, bytes: &mut [u8], starts: &mut [u32], ends: &mut [u32], x: u64) -> Made
-    ensures { λ r. ⌜ made r (store (now (bytes .exit)) (atomSlots (now (starts .exit)) (now (ends .exit)))) ≡ newU64 a x (store (now (bytes .entry)) (atomSlots (now (starts .entry)) (now (ends .entry)))) ⌝ }
+    ensures { λ r. ⌜ made r (storeIn (bytes .exit) (starts .exit) (ends .exit))
+        ≡ newU64 a x (storeIn (bytes .entry) (starts .entry) (ends .entry)) ⌝ }
 {
     let mut buf = [0u8; 9];
     let n = integer::write_u64(&mut buf, x);
@@ -172,7 +165,8 @@ pub fn new_u64(a: Allocator, bytes: &mut [u8], starts: &mut [u32], ends: &mut [u
 
 // A new atom of a signed number: its shortest bytes in two's complement.
 pub fn new_i64(a: Allocator, bytes: &mut [u8], starts: &mut [u32], ends: &mut [u32], x: i64) -> Made
-    ensures { λ r. ⌜ made r (store (now (bytes .exit)) (atomSlots (now (starts .exit)) (now (ends .exit)))) ≡ newI64 a x (store (now (bytes .entry)) (atomSlots (now (starts .entry)) (now (ends .entry)))) ⌝ }
+    ensures { λ r. ⌜ made r (storeIn (bytes .exit) (starts .exit) (ends .exit))
+        ≡ newI64 a x (storeIn (bytes .entry) (starts .entry) (ends .entry)) ⌝ }
 {
     let mut buf = [0u8; 9];
     let n = integer::write_i64(&mut buf, x);

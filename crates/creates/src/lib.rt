@@ -10,7 +10,6 @@ use rules::Answer;
 use rules::Code;
 use rules::Made;
 ghost use mathlib.Core.Path.{_≡_};
-ghost use Rattle.rules.specs.Paper.{codeNumber, answerPaper};
 
 // A refusal: the record as it was given.
 pub fn refused(code: Code, node: u32, a: Allocator) -> Made

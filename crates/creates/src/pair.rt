@@ -7,17 +7,13 @@ use rules::Verdict;
 use state::record;
 use state::sound;
 ghost use mathlib.Core.Path.{_≡_};
-ghost use mathlib.Core.Bool.{_&&_};
-ghost use lib.Dec.{ltb};
-ghost use Rattle.rules.specs.Node.{nil, validNode};
-ghost use Rattle.rules.specs.Said.{says, need, done};
-ghost use Rattle.rules.specs.State.{limitsSound, pairsFit, pairs, pairSlots};
-ghost use Rattle.rules.specs.Creates.{newPair};
+ghost use Rattle.rules.specs.Lent.{pairStoreIn};
+ghost use Rattle.rules.specs.Creates.{pairTestsAt, newPair};
 ghost use Rattle.rules.specs.Paper.{verdictPaper, made};
 
-// The tests of new_pair beside slices of these lengths: 1, 5 for first, 5 for rest, 4, 15.
+// The tests of new_pair beside slices of these lengths: 1 unsound, 5 not valid for first, then for rest, 4 too many pairs, 15 full.
 fn pair_tests(a: Allocator, first: u32, rest: u32, firsts: usize, rests: usize) -> Verdict
-    ensures { λ r. ⌜ verdictPaper r ≡ need (limitsSound a && pairsFit a firsts rests) 1 nil (need (validNode (a .used .atoms) (a .used .pairs) first) 5 nil (need (validNode (a .used .atoms) (a .used .pairs) rest) 5 nil (need (ltb (pairs a) 62500000) 4 nil (need (ltb (a .used .pairs) firsts && ltb (a .used .pairs) rests) 15 nil (says done))))) ⌝ }
+    ensures { λ r. ⌜ verdictPaper r ≡ pairTestsAt a first rest firsts rests ⌝ }
 {
     let atoms = a.used.atoms;
     let used = a.used.pairs;
@@ -27,7 +23,7 @@ fn pair_tests(a: Allocator, first: u32, rest: u32, firsts: usize, rests: usize) 
                 if sound::MOST <= sound::total(used, a.ghosts.pairs) {
                     return Verdict::Refused(Code::TooManyPairs, node::NIL);
                 }
-                if super::atom::slot_room(used, firsts, rests) {
+                if sound::fit(used + 1, firsts, rests) {
                     return Verdict::Done;
                 }
                 return Verdict::Refused(Code::Full, node::NIL);
@@ -41,7 +37,8 @@ fn pair_tests(a: Allocator, first: u32, rest: u32, firsts: usize, rests: usize) 
 
 // A new pair of two nodes.
 pub fn new_pair(a: Allocator, firsts: &mut [u32], rests: &mut [u32], first: u32, rest: u32) -> Made
-    ensures { λ r. ⌜ made r (pairSlots (now (firsts .exit)) (now (rests .exit))) ≡ newPair a first rest (pairSlots (now (firsts .entry)) (now (rests .entry))) ⌝ }
+    ensures { λ r. ⌜ made r (pairStoreIn (firsts .exit) (rests .exit))
+        ≡ newPair a first rest (pairStoreIn (firsts .entry) (rests .entry)) ⌝ }
 {
     let tests = pair_tests(a, first, rest, firsts.len(), rests.len());
     match tests {

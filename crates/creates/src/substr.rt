@@ -9,7 +9,6 @@ use state::record;
 use state::sound;
 ghost use mathlib.Core.Path.{_≡_};
 ghost use mathlib.Core.List.{List};
-ghost use mathlib.Core.Bool.{_&&_};
 ghost use Prim.Native.Nat.{ℕ, _+_, _≤_, _<_};
 ghost use lib.Dec.{leb};
 ghost use lib.ListN.{length};
@@ -17,14 +16,16 @@ ghost use lib.Seq.{slice};
 ghost use Rattle.rules.specs.Node.{nil};
 ghost use Rattle.rules.specs.Small.{fits, lenFor, smallBytes};
 ghost use Rattle.rules.specs.Said.{need};
-ghost use Rattle.rules.specs.State.{limitsSound, atomsFit, bytesFit, store, atomSlots};
+ghost use Rattle.rules.specs.State.{bytesSoundAt, store};
+ghost use Rattle.rules.specs.Lent.{atomSlotsIn, storeIn, AtomsWithin};
 ghost use Rattle.rules.specs.Reads.{atomOf};
 ghost use Rattle.rules.specs.Creates.{atomsLeft, bounded, shareRange, smallOr, newSubstr};
 ghost use Rattle.rules.specs.Paper.{atomPaper, made};
 
-// The atom, if a part of its len bytes has these bounds: else 7, 8, 9 with the node.
+// The atom, if a part of its len bytes has these bounds: else, with the node, 7 start or 8 end out of bounds, 9 start past end.
 fn bounds_check(found: Atom, len: usize, n: u32, start: usize, end: usize) -> Atom
-    ensures { λ r. ⌜ atomPaper r ≡ need (leb start len) 7 n (need (leb end len) 8 n (need (leb start end) 9 n (atomPaper found))) ⌝ }
+    ensures { λ r. ⌜ atomPaper r
+        ≡ need (leb start len) 7 n (need (leb end len) 8 n (need (leb start end) 9 n (atomPaper found))) ⌝ }
 {
     if len < start {
         return Atom::Refused(Code::StartOutOfBounds, n);
@@ -38,7 +39,7 @@ fn bounds_check(found: Atom, len: usize, n: u32, start: usize, end: usize) -> At
     found
 }
 
-// The atom of a node, if a part of it has these bounds: 5, 1, 6, 7, 8, 9.
+// The atom of a node, if a part of it has these bounds: 5 not valid, 1 unsound slot, 6 a pair, then the bounds.
 fn bounded_atom(
     a: Allocator,
     starts: &[u32],
@@ -47,8 +48,8 @@ fn bounded_atom(
     start: usize,
     end: usize,
 ) -> Atom
-    requires { ⌜ (a .used .atoms ≤ length (now starts)) × (a .used .atoms ≤ length (now ends)) ⌝ }
-    ensures { λ r. ⌜ atomPaper r ≡ bounded n start end (atomOf a (atomSlots (now (starts .entry)) (now (ends .entry))) n) ⌝ }
+    requires { ⌜ AtomsWithin a starts ends ⌝ }
+    ensures { λ r. ⌜ atomPaper r ≡ bounded n start end (atomOf a (atomSlotsIn (starts .entry) (ends .entry)) n) ⌝ }
 {
     let found = arg::atom_of(a, starts, ends, n);
     match found {
@@ -58,7 +59,7 @@ fn bounded_atom(
     }
 }
 
-// The tests of new_substr beside a byte store of that length: 1, 3, 5, 1, 6, 7, 8, 9.
+// The tests of new_substr beside a byte store of that length: 1 unsound, 3 too many atoms, then the atom and the bounds.
 fn substr_tests(
     a: Allocator,
     bytes: usize,
@@ -68,9 +69,11 @@ fn substr_tests(
     start: usize,
     end: usize,
 ) -> Atom
-    ensures { λ r. ⌜ atomPaper r ≡ need (limitsSound a && atomsFit a (length (now (starts .entry))) (length (now (ends .entry))) && bytesFit a bytes) 1 nil (need (atomsLeft a) 3 nil (bounded n start end (atomOf a (atomSlots (now (starts .entry)) (now (ends .entry))) n))) ⌝ }
+    ensures { λ r. ⌜ atomPaper r
+        ≡ need (bytesSoundAt a bytes (length (now (starts .entry))) (length (now (ends .entry)))) 1 nil
+        (need (atomsLeft a) 3 nil (bounded n start end (atomOf a (atomSlotsIn (starts .entry) (ends .entry)) n))) ⌝ }
 {
-    if sound::store_sound(a, bytes, starts.len(), ends.len()) {
+    if sound::bytes_sound(a, bytes, starts.len(), ends.len()) {
         if sound::MOST <= sound::total(a.used.atoms, a.ghosts.atoms) {
             return Atom::Refused(Code::TooManyAtoms, node::NIL);
         }
@@ -82,10 +85,11 @@ fn substr_tests(
 // A new slot over bytes that are there, where there is room for it.
 fn share_range(a: Allocator, starts: &mut [u32], ends: &mut [u32], start: usize, end: usize) -> Made
     requires { ⌜ (a .used .atoms < 62500000) × (a .used .bytes ≤ 4294967295) × (start ≤ 4294967295) × (end ≤ 4294967295) ⌝ }
-    ensures { λ r. ⌜ ((b : List ℕ) → made r (store b (atomSlots (now (starts .exit)) (now (ends .exit)))) ≡ shareRange a start end (store b (atomSlots (now (starts .entry)) (now (ends .entry))))) ⌝ }
+    ensures { λ r. ⌜ ((b : List ℕ) → made r (store b (atomSlotsIn (starts .exit) (ends .exit)))
+        ≡ shareRange a start end (store b (atomSlotsIn (starts .entry) (ends .entry)))) ⌝ }
 {
     let at = a.used.atoms;
-    if super::atom::slot_room(at, starts.len(), ends.len()) {
+    if sound::fit(at + 1, starts.len(), ends.len()) {
         starts[at] = start as u32;
         ends[at] = end as u32;
         return Made {
@@ -108,7 +112,8 @@ fn part_of_small(
 ) -> Made
     requires { ⌜ (a .used .atoms + a .ghosts .atoms < 62500000) × (a .ghosts .bytes ≤ 8589934590) ⌝ }
     requires { ⌜ (v < 67108864) × (start ≤ end) × (end ≤ lenFor v) ⌝ }
-    ensures { λ r. ⌜ made r (store (now (bytes .exit)) (atomSlots (now (starts .exit)) (now (ends .exit)))) ≡ smallOr (fits (slice start end (smallBytes v))) 0 a (slice start end (smallBytes v)) (store (now (bytes .entry)) (atomSlots (now (starts .entry)) (now (ends .entry)))) ⌝ }
+    ensures { λ r. ⌜ made r (storeIn (bytes .exit) (starts .exit) (ends .exit))
+        ≡ smallOr (fits (slice start end (smallBytes v))) 0 a (slice start end (smallBytes v)) (storeIn (bytes .entry) (starts .entry) (ends .entry)) ⌝ }
 {
     let mut buf = [0u8; 4];
     node::put_be(&mut buf, v as u64, 4);
@@ -128,10 +133,11 @@ pub fn new_substr(
     start: u32,
     end: u32,
 ) -> Made
-    ensures { λ r. ⌜ made r (store (now (bytes .exit)) (atomSlots (now (starts .exit)) (now (ends .exit)))) ≡ newSubstr a n start end (store (now (bytes .entry)) (atomSlots (now (starts .entry)) (now (ends .entry)))) ⌝ }
+    ensures { λ r. ⌜ made r (storeIn (bytes .exit) (starts .exit) (ends .exit))
+        ≡ newSubstr a n start end (storeIn (bytes .entry) (starts .entry) (ends .entry)) ⌝ }
 {
-    let i = arg::wide(start);
-    let j = arg::wide(end);
+    let i = node::wide(start);
+    let j = node::wide(end);
     let found = substr_tests(a, bytes.len(), starts, ends, n, i, j);
     match found {
         Atom::Refused(code, node) => super::refused(code, node, a),

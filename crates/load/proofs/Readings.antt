@@ -13,11 +13,11 @@ use Rattle.rules.specs.declared.Answer.the-variants as Answer
 use Rattle.rules.specs.declared.Code.{Code}
 use Rattle.rules.specs.Node.{nil}
 use Rattle.rules.specs.Said.{says, refuses, Out}
-use Rattle.rules.specs.State.{Lists, lists, Store, PairSlots, listsSound}
+use Rattle.rules.specs.State.{Lists, Store, PairStore, together, listsSound}
 use Rattle.rules.specs.Serial.{Token, broken, opening, string, token}
 use Rattle.rules.specs.Load.{Reading, reading, placed, madeAtom, madePair, after, pairItem, readPair, itemAs, item, atEnd, orBack, levelsOf, load}
 use Rattle.rules.specs.Paper.{codeNumber, answerPaper}
-use Rattle.rows.specs.Rows.{recordOf, RowOut, rowed}
+use Rattle.words.specs.Words.{recordOf, WordsOut, inWords}
 use Rattle.load.specs.declared.Found.{Found}
 use Rattle.load.specs.Readings.{readItem}
 
@@ -84,15 +84,15 @@ placed-node x n at next e = sym (ap (λ (y : Answer). placed (answerPaper y) at 
 pub placed-refused : (x : Answer) (code : Code) (node at next : ℕ) → x ≡ Answer.Refused code node → at ≡ placed (answerPaper x) at next
 placed-refused x code node at next e = sym (ap (λ (y : Answer). placed (answerPaper y) at next) e)
 
--- ---- what the calls on a row leave
+-- ---- what the calls on the record in words leave
 
-pub atom-row : (at next : ℕ) (p : PairSlots) (w : RowOut Store) (o : Out ℕ Store) → w ≡ rowed o
-    → reading (w .said) (placed (w .said) at next) (recordOf (w .row)) (lists (w .lent .bytes) (w .lent .atoms) p) ≡ madeAtom at next p o
-atom-row at next p w o e = ap (λ (x : RowOut Store). reading (x .said) (placed (x .said) at next) (recordOf (x .row)) (lists (x .lent .bytes) (x .lent .atoms) p)) e
+pub atom-words : (at next : ℕ) (p : PairStore) (w : WordsOut Store) (o : Out ℕ Store) → w ≡ inWords o
+    → reading (w .said) (placed (w .said) at next) (recordOf (w .words)) (together (w .lent) p) ≡ madeAtom at next p o
+atom-words at next p w o e = ap (λ (x : WordsOut Store). reading (x .said) (placed (x .said) at next) (recordOf (x .words)) (together (x .lent) p)) e
 
-pub pair-row : (at next : ℕ) (s : Store) (w : RowOut PairSlots) (o : Out ℕ PairSlots) → w ≡ rowed o
-    → reading (w .said) (placed (w .said) at next) (recordOf (w .row)) (lists (s .bytes) (s .atoms) (w .lent)) ≡ madePair at next s o
-pair-row at next s w o e = ap (λ (x : RowOut PairSlots). reading (x .said) (placed (x .said) at next) (recordOf (x .row)) (lists (s .bytes) (s .atoms) (x .lent))) e
+pub pair-words : (at next : ℕ) (s : Store) (w : WordsOut PairStore) (o : Out ℕ PairStore) → w ≡ inWords o
+    → reading (w .said) (placed (w .said) at next) (recordOf (w .words)) (together s (w .lent)) ≡ madePair at next s o
+pair-words at next s w o e = ap (λ (x : WordsOut PairStore). reading (x .said) (placed (x .said) at next) (recordOf (x .words)) (together s (x .lent))) e
 
 -- ---- the end of the file
 

@@ -11,9 +11,9 @@ use lib.Seq.{slice}
 use Rattle.rules.proofs.Lists.{part-slice}
 use Rattle.rules.specs.Small.{big}
 use Rattle.serial.proofs.Tokens.{parse-short}
-use Rattle.rules.specs.Serial.{markOf, extra, broken, opening, string, lengthIn, prefixed, token}
+use Rattle.rules.specs.Serial.{baseOf, extra, broken, opening, string, lengthIn, prefixed, token}
 
--- where a pair's mark, and where an atom's bytes lie
+-- where a pair's base, and where an atom's bytes lie
 module _ (f : List ℕ) (at : ℕ) where
   pub pair-inside : opening ≡ token f at → at < length f
   pair-inside e = parse-short f at opening (sym e) .inside
@@ -21,20 +21,11 @@ module _ (f : List ℕ) (at : ℕ) where
   pub atom-inside : (from to : ℕ) → string from to ≡ token f at → (from ≤ to) × (to ≤ length f)
   atom-inside from to e = let p = parse-short f at (string from to) (sym e) in (p .order, p .inside)
 
--- ---- a turn of the loop that reads a length
-
-pub number-none : (first : ℕ) (v : List ℕ) → first * 256 ^ length v + big v ≡ big (first ∷ v)
-unfolding big
-number-none first v = refl
-
-pub number-room : (i : ℕ) → i ≤ 4 → 256 ^ (i + 1) ≤ 1099511627776
-number-room i h = let g : i + 1 ≤ 5 = omega arith in pow-le-pow-right (lit< tt) g
-
 -- ---- behind a prefix
 
 module _ (f : List ℕ) (at k : ℕ) where
   -- the length, as the code reads it
-  pub length-is : (n m : ℕ) → n ≡ big ((getD f at 0 - m) ∷ take (at + 1 + k - (at + 1)) (drop (at + 1) f)) → m ≡ markOf k → n ≡ lengthIn f at k
+  pub length-is : (n m : ℕ) → n ≡ big ((getD f at 0 - m) ∷ take (at + 1 + k - (at + 1)) (drop (at + 1) f)) → m ≡ baseOf k → n ≡ lengthIn f at k
   length-is n m e d =
       e
       ∙ ap (λ (v : List ℕ). big ((getD f at 0 - m) ∷ v)) (part-slice (at + 1) (at + 1 + k) f (omega arith))

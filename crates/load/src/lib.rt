@@ -7,18 +7,20 @@ use rules::Code;
 use rules::Loaded;
 use state::sound;
 use token::Token;
+use words::RecordWords;
 ghost use mathlib.Core.Path.{_≡_};
 ghost use Prim.Native.Nat.{_≤_, _<_};
 ghost use lib.ListN.{length};
 ghost use Rattle.rules.specs.Node.{nil};
 ghost use Rattle.rules.specs.Said.{refuses};
-ghost use Rattle.rules.specs.State.{Lists, lists, Store, PairSlots, atomSlots, pairSlots, store};
+ghost use Rattle.rules.specs.State.{Lists, Store, PairStore, together};
+ghost use Rattle.rules.specs.Lent.{listsIn, storeIn, pairStoreIn};
 ghost use Rattle.rules.specs.Load.{reading, placed as placedAt, readAtom, readPair, pairItem, item as itemOf, atEnd, orBack, load as loadOf};
 ghost use Rattle.rules.specs.Paper.{codeNumber, answerPaper, loaded};
-ghost use Rattle.rows.specs.Rows.{recordOf};
+ghost use Rattle.words.specs.Words.{recordIn};
 ghost use Rattle.load.specs.Readings.{readItem, Same, Always};
 
-// An item's node, and where in the file the next item starts; or a code, and where the item at fault starts. The record stays in its row:
+// An item's node, and where in the file the next item starts; or a code, and where the item at fault starts. The record stays in its words:
 // handed on by value it would take most of the stack of each level.
 pub struct Found {
     pub answer: Answer,
@@ -37,7 +39,8 @@ fn fault(code: Code, at: usize) -> Found
 
 // What a call made of the item at a place: the next item starts further on; a refused item is told by its own place.
 fn placed(answer: Answer, at: usize, next: usize) -> Found
-    ensures { λ r. ⌜ Always (λ (a : Allocator). λ l. readItem r a l) (λ a. λ l. reading (answerPaper answer) (placedAt (answerPaper answer) at next) a l) ⌝ }
+    ensures { λ r. ⌜ Always (λ (a : Allocator). λ l. readItem r a l)
+        (λ a. λ l. reading (answerPaper answer) (placedAt (answerPaper answer) at next) a l) ⌝ }
 {
     match answer {
         Answer::Node(_) => Found { answer, at: next },
@@ -51,15 +54,17 @@ fn atom_item(
     at: usize,
     from: usize,
     to: usize,
-    row: &mut [usize; 7],
+    words: &mut RecordWords,
     bytes: &mut [u8],
     starts: &mut [u32],
     ends: &mut [u32],
 ) -> Found
     requires { ⌜ (from ≤ to) × (to ≤ length (now f)) ⌝ }
-    ensures { λ r. ⌜ Same (λ (p : PairSlots). readItem r (recordOf (now (row .exit))) (lists (now (bytes .exit)) (atomSlots (now (starts .exit)) (now (ends .exit))) p)) (λ p. readAtom (now (f .entry)) at from to (recordOf (now (row .entry))) (lists (now (bytes .entry)) (atomSlots (now (starts .entry)) (now (ends .entry))) p)) ⌝ }
+    ensures { λ r. ⌜ Same
+        (λ (p : PairStore). readItem r (recordIn (words .exit)) (together (storeIn (bytes .exit) (starts .exit) (ends .exit)) p))
+        (λ p. readAtom (now (f .entry)) at from to (recordIn (words .entry)) (together (storeIn (bytes .entry) (starts .entry) (ends .entry)) p)) ⌝ }
 {
-    let answer = rows::new_atom(row, bytes, starts, ends, &f[from..to]);
+    let answer = words::new_atom(words, bytes, starts, ends, &f[from..to]);
     placed(answer, at, to)
 }
 
@@ -69,13 +74,15 @@ fn pair_item(
     next: usize,
     first: u32,
     rest: u32,
-    row: &mut [usize; 7],
+    words: &mut RecordWords,
     firsts: &mut [u32],
     rests: &mut [u32],
 ) -> Found
-    ensures { λ r. ⌜ Same (λ (s : Store). readItem r (recordOf (now (row .exit))) (lists (s .bytes) (s .atoms) (pairSlots (now (firsts .exit)) (now (rests .exit))))) (λ s. readPair at next first rest (recordOf (now (row .entry))) (lists (s .bytes) (s .atoms) (pairSlots (now (firsts .entry)) (now (rests .entry))))) ⌝ }
+    ensures { λ r. ⌜ Same
+        (λ (s : Store). readItem r (recordIn (words .exit)) (together s (pairStoreIn (firsts .exit) (rests .exit))))
+        (λ s. readPair at next first rest (recordIn (words .entry)) (together s (pairStoreIn (firsts .entry) (rests .entry)))) ⌝ }
 {
-    let answer = rows::new_pair(row, firsts, rests, first, rest);
+    let answer = words::new_pair(words, firsts, rests, first, rest);
     placed(answer, at, next)
 }
 
@@ -84,14 +91,16 @@ fn item(
     f: &[u8],
     at: usize,
     levels: usize,
-    row: &mut [usize; 7],
+    words: &mut RecordWords,
     bytes: &mut [u8],
     starts: &mut [u32],
     ends: &mut [u32],
     firsts: &mut [u32],
     rests: &mut [u32],
 ) -> Found
-    ensures { λ r. ⌜ readItem r (recordOf (now (row .exit))) (lists (now (bytes .exit)) (atomSlots (now (starts .exit)) (now (ends .exit))) (pairSlots (now (firsts .exit)) (now (rests .exit)))) ≡ itemOf (now (f .entry)) levels at (recordOf (now (row .entry))) (lists (now (bytes .entry)) (atomSlots (now (starts .entry)) (now (ends .entry))) (pairSlots (now (firsts .entry)) (now (rests .entry)))) ⌝ }
+    ensures { λ r. ⌜ readItem r (recordIn (words .exit)) (listsIn (bytes .exit) (starts .exit) (ends .exit) (firsts .exit) (rests .exit))
+        ≡ itemOf (now (f .entry)) levels at (recordIn (words .entry))
+        (listsIn (bytes .entry) (starts .entry) (ends .entry) (firsts .entry) (rests .entry)) ⌝ }
 {
     if levels == 0 {
         return fault(Code::TooDeep, at);
@@ -99,17 +108,17 @@ fn item(
     let found = token::token_at(f, at);
     match found {
         Token::Broken => fault(Code::BadEncoding, at),
-        Token::Opening => pair(f, at, levels - 1, row, bytes, starts, ends, firsts, rests),
-        Token::String(from, to) => atom_item(f, at, from, to, row, bytes, starts, ends),
+        Token::Opening => pair(f, at, levels - 1, words, bytes, starts, ends, firsts, rests),
+        Token::String(from, to) => atom_item(f, at, from, to, words, bytes, starts, ends),
     }
 }
 
-// The pair whose mark stands at a place: first, rest, then the pair.
+// The pair that opens at a place: first, rest, then the pair.
 fn pair(
     f: &[u8],
     at: usize,
     levels: usize,
-    row: &mut [usize; 7],
+    words: &mut RecordWords,
     bytes: &mut [u8],
     starts: &mut [u32],
     ends: &mut [u32],
@@ -117,19 +126,21 @@ fn pair(
     rests: &mut [u32],
 ) -> Found
     requires { ⌜ at < length (now f) ⌝ }
-    ensures { λ r. ⌜ readItem r (recordOf (now (row .exit))) (lists (now (bytes .exit)) (atomSlots (now (starts .exit)) (now (ends .exit))) (pairSlots (now (firsts .exit)) (now (rests .exit)))) ≡ pairItem (itemOf (now (f .entry)) levels) at (recordOf (now (row .entry))) (lists (now (bytes .entry)) (atomSlots (now (starts .entry)) (now (ends .entry))) (pairSlots (now (firsts .entry)) (now (rests .entry)))) ⌝ }
+    ensures { λ r. ⌜ readItem r (recordIn (words .exit)) (listsIn (bytes .exit) (starts .exit) (ends .exit) (firsts .exit) (rests .exit))
+        ≡ pairItem (itemOf (now (f .entry)) levels) at (recordIn (words .entry))
+        (listsIn (bytes .entry) (starts .entry) (ends .entry) (firsts .entry) (rests .entry)) ⌝ }
 {
-    let one = item(f, at + 1, levels, row, bytes, starts, ends, firsts, rests);
+    let one = item(f, at + 1, levels, words, bytes, starts, ends, firsts, rests);
     let head = one.answer;
     let Answer::Node(first) = head else {
         return one;
     };
-    let two = item(f, one.at, levels, row, bytes, starts, ends, firsts, rests);
+    let two = item(f, one.at, levels, words, bytes, starts, ends, firsts, rests);
     let tail = two.answer;
     let Answer::Node(rest) = tail else {
         return two;
     };
-    pair_item(at, two.at, first, rest, row, firsts, rests)
+    pair_item(at, two.at, first, rest, words, firsts, rests)
 }
 
 // Bytes after the root are bad encoding; a refusal gives the record back as it was given.
@@ -174,7 +185,8 @@ pub fn load(
     rests: &mut [u32],
     f: &[u8],
 ) -> Loaded
-    ensures { λ r. ⌜ loaded r (lists (now (bytes .exit)) (atomSlots (now (starts .exit)) (now (ends .exit))) (pairSlots (now (firsts .exit)) (now (rests .exit)))) ≡ loadOf (now (f .entry)) a (lists (now (bytes .entry)) (atomSlots (now (starts .entry)) (now (ends .entry))) (pairSlots (now (firsts .entry)) (now (rests .entry)))) ⌝ }
+    ensures { λ r. ⌜ loaded r (listsIn (bytes .exit) (starts .exit) (ends .exit) (firsts .exit) (rests .exit))
+        ≡ loadOf (now (f .entry)) a (listsIn (bytes .entry) (starts .entry) (ends .entry) (firsts .entry) (rests .entry)) ⌝ }
 {
     if sound::lists_sound(
         a,
@@ -184,19 +196,19 @@ pub fn load(
         firsts.len(),
         rests.len(),
     ) {
-        let mut row = rows::of_record(a);
+        let mut words = words::of_record(a);
         let r = item(
             f,
             0,
             prefix::LEVELS,
-            &mut row,
+            &mut words,
             bytes,
             starts,
             ends,
             firsts,
             rests,
         );
-        return settled(r, rows::record(&row), f.len(), a);
+        return settled(r, words::record(&words), f.len(), a);
     }
     refused(Code::Unsound, 0, a)
 }

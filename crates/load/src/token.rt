@@ -1,10 +1,8 @@
-// What stands in a program file at a place: a pair's mark, an atom, or nothing that an item starts with.
+// What stands in a program file at a place: a pair's base, an atom, or nothing that an item starts with.
 ghost use mathlib.Core.Path.{_≡_};
-ghost use mathlib.Core.List.{_∷_};
 ghost use Prim.Native.Nat.{_≤_, _<_};
 ghost use lib.ListN.{length, getD};
-ghost use Rattle.rules.specs.Small.{big};
-ghost use Rattle.rules.specs.Serial.{markOf, prefixed as prefixedOf, token as tokenOf};
+ghost use Rattle.rules.specs.Serial.{baseOf, prefixed as prefixedOf, token as tokenOf};
 ghost use Rattle.load.specs.Tokens.{tokenPaper};
 
 // Nothing that starts an item, or an atom cut short; ff; an atom, from where its bytes start to where the next item does.
@@ -17,23 +15,9 @@ pub enum Token {
 // From here on no prefix starts.
 const NO_PREFIX: u8 = 0xfc;
 
-// The number that a first digit and at most four bytes write, big-endian.
-fn number(first: u64, more: &[u8]) -> u64
-    requires { ⌜ (first < 256) × (length (now more) ≤ 4) ⌝ }
-    ensures { λ r. ⌜ r ≡ big (first ∷ now (more .entry)) ⌝ }
-{
-    let mut n = first;
-    let mut i = 0;
-    while i < more.len() {
-        n = n * 256 + more[i] as u64;
-        i += 1;
-    }
-    n
-}
-
 // The atom behind a prefix that has k bytes after its first.
 fn prefixed(f: &[u8], at: usize, k: usize) -> Token
-    requires { ⌜ (k ≤ 4) × (at < length (now f)) × (markOf k ≤ getD (now f) at 0) ⌝ }
+    requires { ⌜ (k ≤ 4) × (at < length (now f)) × (baseOf k ≤ getD (now f) at 0) ⌝ }
     ensures { λ r. ⌜ tokenPaper r ≡ prefixedOf (now (f .entry)) at k ⌝ }
 {
     let left = f.len() - at - 1;
@@ -41,8 +25,8 @@ fn prefixed(f: &[u8], at: usize, k: usize) -> Token
         return Token::Broken;
     }
     let from = at + 1 + k;
-    let first = f[at] as u64 - prefix::mark(k);
-    let len = number(first, &f[at + 1..from]) as usize;
+    let first = f[at] as u64 - prefix::base(k);
+    let len = node::read_be(first, &f[at + 1..from]) as usize;
     if left - k < len {
         return Token::Broken;
     }

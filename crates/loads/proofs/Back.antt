@@ -7,7 +7,7 @@ use Rattle.rules.specs.Said.{says}
 use Rattle.rules.specs.Tree.{Tree}
 use Rattle.rules.specs.Serial.{Parsed, parsed, fault}
 use Rattle.rules.specs.Load.{levelsOf}
-use Rattle.runs.specs.State.{St, load}
+use Rattle.rules.specs.Whole.{St, load}
 use Rattle.runs.specs.Wf.{WF}
 use Rattle.runs.proofs.Tests.{→sound}
 use Rattle.serial.proofs.Parses.{parse-whole}

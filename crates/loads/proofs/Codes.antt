@@ -9,7 +9,7 @@ use Rattle.rules.specs.Small.{fits}
 use Rattle.rules.specs.Said.{Said, refuses}
 use Rattle.rules.specs.Creates.{storeAtom, atomTests, atomPut, pairTests}
 use Rattle.rules.specs.Load as L
-use Rattle.runs.specs.State.{St, storeOf, newAtom, newPair}
+use Rattle.rules.specs.Whole.{St, storeOf, newAtom, newPair}
 use Rattle.runs.specs.Causes.{RefusedBy}
 use Rattle.runs.proofs.Causes.{why}
 use Rattle.loads.specs.Files.{CallRefused, atom-refused, pair-refused, LoadStops, FileStops}

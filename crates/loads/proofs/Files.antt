@@ -15,9 +15,9 @@ use Rattle.rules.specs.Serial.{Parsed, parsed, fault}
 use Rattle.rules.specs.Load as L
 use Rattle.rules.specs.Load.{Reading, item, atEnd, levelsOf}
 use Rattle.rules.proofs.Tests.{choice}
-use Rattle.runs.specs.State.{St, Whole, left, load}
+use Rattle.rules.specs.Whole.{St, Whole, orBack, left, load}
 use Rattle.runs.specs.Loads.{build}
-use Rattle.loads.specs.Files.{parseFile, answer, orBack, Loads, LoadStops, Stopped, by-file, by-call}
+use Rattle.loads.specs.Files.{parseFile, answer, Loads, LoadStops, Stopped, by-file, by-call}
 use Rattle.loads.proofs.Items.{Agrees, made, stopped, at-fault, before-fault, item-agrees}
 
 module _ (f : List ℕ) (s : St) where

@@ -5,7 +5,7 @@ use mathlib.Core.Logic.{_↔_}
 use mathlib.Core.List.{List}
 use Rattle.rules.specs.Small.{Octets}
 use Rattle.rules.specs.Load.{levelsOf}
-use Rattle.runs.specs.State.{St, load}
+use Rattle.rules.specs.Whole.{St, load}
 use Rattle.serial.proofs.Parses.{parse-whole}
 use Rattle.loads.specs.Files.{answer, LoadsForm}
 use Rattle.loads.proofs.Files.{load-accepts}

@@ -11,7 +11,7 @@ use Rattle.rules.specs.Tree.{Tree, leaf, fork}
 use Rattle.rules.specs.Serial.{Token, broken, opening, string, token, Parsed, parsed, fault, andThen, parsedAs, parse}
 use Rattle.rules.specs.Load as L
 use Rattle.rules.specs.Load.{Reading, reading, placed, readPair, itemAs, item}
-use Rattle.runs.specs.State.{St, Whole}
+use Rattle.rules.specs.Whole.{St, Whole}
 use Rattle.runs.specs.Makes.{Outcome}
 use Rattle.runs.specs.Makes as M
 use Rattle.runs.specs.Loads.{build, Calls, no-call, atom-call, pair-call}

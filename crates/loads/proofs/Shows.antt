@@ -4,13 +4,13 @@ use mathlib.Core.Path.{_≡_, refl, ap, ap₂, _∙_, subst}
 use mathlib.Core.List.{List}
 use native.Mathlib.Omega.{arith}
 use Rattle.rules.specs.Small.{Octets}
-use Rattle.rules.specs.Said.{Said, says, refuses}
+use Rattle.rules.specs.Said.{Said, says, refuses, onward}
 use Rattle.rules.specs.Tree.{Tree, leaf, fork}
 use Rattle.rules.specs.Serial.{Token, broken, opening, string, token, Parsed, parsed, fault, andThen, parsedAs, parse}
 use Rattle.rules.specs.Load.{levelsOf}
-use Rattle.runs.specs.State.{St, Whole, newPair, load}
+use Rattle.rules.specs.Whole.{St, Whole, after, newPair, load}
 use Rattle.runs.specs.Wf.{WF}
-use Rattle.runs.specs.Loads.{onward, after, build}
+use Rattle.runs.specs.Loads.{build}
 use Rattle.rules.proofs.Bytes.{octets-slice}
 use Rattle.runs.proofs.Growing.{on-trans}
 use Rattle.runs.proofs.Reading.{tree-same}
@@ -27,7 +27,7 @@ after-ind : (P : Whole ℕ → Type 0) (o : Whole ℕ) (g : ℕ → St → Whole
     → ((m : ℕ) → o .said ≡ says m → g m (o .next) .said ≡ says n → P (g m (o .next))) → P (after o g)
 after-ind P o g n e f = go (o .said) refl e
   where
-    go : (x : Said ℕ) → o .said ≡ x → onward x o g .said ≡ says n → P (onward x o g)
+    go : (x : Said ℕ) → o .said ≡ x → onward x o (λ m. g m (o .next)) .said ≡ says n → P (onward x o (λ m. g m (o .next)))
     go (says m) q e = f m q e
     go (refuses code node) q e = let z : _≡_ {A = ℕ} 0 1 = cc in absurd (omega arith)
 
@@ -46,9 +46,11 @@ pub build-shows : {s : St} → WF s → (t : Tree) → AtomsOctets t → (n : �
 unfolding build
 build-shows w (leaf v) o n e = let m = outcome-says (atom-makes w v o) e .made in record { on = m .on; valid = m .valid; shows = m .shows }
 build-shows {s} w (fork x y) o n e =
-    after-ind (λ (q : Whole ℕ). Shows s (fork x y) n (q .next)) (build x s) _ n e λ first a e₁.
+    after-ind (λ (q : Whole ℕ). Shows s (fork x y) n (q .next)) (build x s)
+    (λ first t. after (build y t) λ rest u. newPair first rest u) n e λ first a e₁.
     let p = build-shows w x (o .0) first a in
-    after-ind (λ (q : Whole ℕ). Shows s (fork x y) n (q .next)) (build y (build x s .next)) _ n e₁ λ rest b e₂.
+    after-ind (λ (q : Whole ℕ). Shows s (fork x y) n (q .next)) (build y (build x s .next))
+    (λ rest u. newPair first rest u) n e₁ λ rest b e₂.
     pair-shows x y first rest n p (build-shows (p .on .wf) y (o .1) rest b) e₂
 
 -- ---- the atoms of a file of bytes are bytes

@@ -12,7 +12,7 @@ use Rattle.rules.specs.State.{listsSound}
 use Rattle.rules.specs.Tree.{Tree, tree}
 use Rattle.rules.specs.Serial.{Form, height, opening, string, token, Parsed, parsed, fault, parse}
 use Rattle.rules.specs.Load.{Reading, reading, levelsOf}
-use Rattle.runs.specs.State.{St, Whole, newAtom, newPair, load}
+use Rattle.rules.specs.Whole.{St, Whole, orBack, newAtom, newPair, load}
 use Rattle.runs.specs.Wf.{ValidIn, On}
 use Rattle.runs.specs.Loads.{build, Calls}
 use Rattle.saves.specs.Saves.{save}
@@ -28,14 +28,6 @@ answer n s = record { said = says n; next = s }
 
 abbrev pub Refused : Whole ℕ → ℕ → ℕ → Type 0
 Refused o code node = o .said ≡ refuses code node
-
--- a refusal gives back the record of s, beside the lists that the calls left
-abbrev pub backTo : St → Said ℕ → Whole ℕ → Whole ℕ
-backTo s (says n) o = o
-backTo s (refuses code node) o = record { said = refuses code node; next = record { rec = s .rec; lists = o .next .lists } }
-
-abbrev pub orBack : St → Whole ℕ → Whole ℕ
-orBack s o = backTo s (o .said) o
 
 -- ---- a file that is accepted
 

@@ -1,6 +1,6 @@
 -- Laws of reading and writing the bytes of a number one at a time. Assumes nothing.
 use Prim.Native.Nat.{ℕ, zero, suc, _+_, _-_, _*_, _/_, _%_, _^_, _≤_, _<_}
-use mathlib.Core.Path.{_≡_, sym, ap, _∙_}
+use mathlib.Core.Path.{_≡_, refl, sym, ap, _∙_}
 use mathlib.Core.List.{List, _∷_, [], _++_, append-assoc}
 use native.Mathlib.Nat.{pow-suc, pow-succ', pow-le-pow-right, div-div-eq-div-mul, not-suc-le-zero, add-mul, mul-assoc, add-assoc}
 use native.Mathlib.Numerals.{add-one}
@@ -8,7 +8,8 @@ use native.Mathlib.Omega.{arith}
 use lib.Dec.{lit<}
 use lib.ListN.{length, take, drop, getD, set, take-append-drop}
 use lib.Seq.{take-suc, drop-cons, set-at, length-take-le}
-use Rattle.rules.specs.Small.{big, be}
+use Rattle.rules.specs.Small.{big, be, Octets}
+use Rattle.rules.proofs.Bytes.{big-lt}
 
 -- ---- a turn of the loop that reads: n is what the bytes before l write
 
@@ -26,8 +27,22 @@ big-step v n i h = rw (drop-cons v i 0 h, add-one) (big-more n (getD v i 0) (dro
 pub big-bits : (n b i : ℕ) → n < 256 ^ i → b < 256 → n * 256 + b < 256 ^ (i + 1)
 big-bits n b i h k = rw (add-one, pow-suc) (omega arith)
 
-pub big-room : (i : ℕ) → i ≤ 3 → 256 ^ i ≤ 16777216
-big-room i h = pow-le-pow-right (lit< tt) h
+-- after at most seven of eight digits there is room for one more
+pub big-room : (i : ℕ) → i ≤ 6 → 256 ^ (i + 1) ≤ 72057594037927936
+big-room i h = let g : i + 1 ≤ 7 = omega arith in pow-le-pow-right (lit< tt) g
+
+-- before the first turn
+pub big-none : (first : ℕ) (v : List ℕ) → first * 256 ^ length v + big v ≡ big (first ∷ v)
+unfolding big
+big-none first v = refl
+
+-- a first digit 0 adds nothing; what at most four bytes write takes 32 bits
+pub big-zero : (v : List ℕ) → big (0 ∷ v) ≡ big v
+unfolding big
+big-zero v = omega arith
+
+pub big-four : (v : List ℕ) → Octets v → length v ≤ 4 → big v < 4294967296
+big-four v o h = let g : 256 ^ length v ≤ 4294967296 = pow-le-pow-right (lit< tt) h in omega (arith, big-lt v o)
 
 -- ---- a turn of the loop that writes: the last n - i of n bytes are written
 

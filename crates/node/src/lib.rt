@@ -8,7 +8,7 @@ use rules::ObjectType;
 use rules::Truth;
 use rules::View;
 ghost use mathlib.Core.Path.{_≡_};
-ghost use mathlib.Core.List.{_++_};
+ghost use mathlib.Core.List.{_∷_, _++_};
 ghost use Prim.Native.Nat.{_≤_, _<_};
 ghost use lib.ListN.{length, drop};
 ghost use Rattle.rules.specs.Node.{view as viewed, nodeOf};
@@ -18,21 +18,38 @@ ghost use Rattle.rules.specs.Paper.{viewPaper, objectTypePaper, numberPaper, tr
 
 // How many indices, or small values, a kind has: an index takes 26 bits.
 const INDICES: u32 = 67108864;
+// The largest value of a small atom.
+pub const LARGEST_SMALL: u32 = 67108863;
 // The small atom 0: it stands beside a code that names no node of its own.
 pub const NIL: u32 = 134217728;
+
+// A number of 32 bits as an index.
+pub fn wide(x: u32) -> usize
+    ensures { λ r. ⌜ r ≡ x ⌝ }
+{
+    x as usize
+}
+
+// The number that a first digit and at most seven bytes write, big-endian.
+pub fn read_be(first: u64, more: &[u8]) -> u64
+    requires { ⌜ (first < 256) × (length (now more) ≤ 7) ⌝ }
+    ensures { λ r. ⌜ r ≡ bigOf (first ∷ now (more .entry)) ⌝ }
+{
+    let mut n = first;
+    let mut i = 0;
+    while i < more.len() {
+        n = n * 256 + more[i] as u64;
+        i += 1;
+    }
+    n
+}
 
 // The number that at most four big-endian bytes write.
 fn big(v: &[u8]) -> u32
     requires { ⌜ length (now v) ≤ 4 ⌝ }
     ensures { λ r. ⌜ r ≡ bigOf (now (v .entry)) ⌝ }
 {
-    let mut n: u32 = 0;
-    let mut i = 0;
-    while i < v.len() {
-        n = n * 256 + v[i] as u32;
-        i += 1;
-    }
-    n
+    read_be(0, v) as u32
 }
 
 // What a number is as a node: the kind in the top 6 bits, the index or the value in the low 26.

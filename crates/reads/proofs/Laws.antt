@@ -14,14 +14,13 @@ use Rattle.rules.specs.declared.Allocator.{Allocator}
 use Rattle.rules.specs.Small.{fits, be, smallBytes, Octets}
 use Rattle.rules.specs.Said.{Said, says, refuses, saysOf}
 use Rattle.rules.specs.Node.{nil}
-use Rattle.rules.specs.State.{AtomSlots, Store, storeSound}
+use Rattle.rules.specs.State.{AtomSlots, bytesSound}
 use Rattle.rules.specs.Reads.{Arg, pairArg, bytesArg, smallArg, Atom, range, value, atomArg, atomOf, atomBytes, partOf, atom, scratchAfter, partBytes, sameBytes, eqArgs}
 use Rattle.rules.proofs.Tests.{both}
 use Rattle.rules.proofs.Needs.{need-ind}
 use Rattle.rules.proofs.Sound.{store-lent}
-use Rattle.rules.proofs.Args.{AtomIn, atom-in}
+use Rattle.rules.proofs.Args.{Inside, inside}
 use Rattle.rules.proofs.Smalls.{fits-value, fits-bytes, bytes-fit, length-be, last-bytes}
-use Rattle.reads.specs.Parts.{Inside}
 
 -- ---- sameBytes is equality
 
@@ -119,16 +118,6 @@ eq-left bytes left right x z (says (pairArg i)) h = rw h
 eq-left bytes left right x z (says (bytesArg i start end)) h = rw h
 eq-left bytes left right x z (says (smallArg v)) h = rw h
 
--- ---- what an atom that passed its tests has
-
-inside-at : (a : Allocator) (bytes : ℕ) (r : Said Atom) → a .used .bytes ≤ bytes → ((x : Atom) → r ≡ says x → AtomIn a x) → Inside bytes r
-inside-at a bytes (says (range start end)) h f = let p = f (range start end) refl in (p .0, omega (arith, p .1))
-inside-at a bytes (says (value v)) h f = f (value v) refl
-inside-at a bytes (refuses code node) h f = omega arith
-
-pub inside : (a : Allocator) (t : AtomSlots) (n bytes : ℕ) → a .used .bytes ≤ bytes → Inside bytes (atomOf a t n)
-inside a t n bytes h = inside-at a bytes (atomOf a t n) h (atom-in a t n)
-
 -- ---- what the part that atom hands back has, beside a byte store and a scratch of these lengths
 
 abbrev pub PartIn : ℕ → ℕ → Said Atom → Type 0
@@ -142,15 +131,15 @@ part-at bytes scratch (says (value v)) h =
     need-ind (PartIn bytes scratch) (eqb scratch 4) 15 nil (says (value v)) (λ e. omega arith) (λ e. (h, eqb-true scratch 4 e))
 part-at bytes scratch (refuses code node) h = omega arith
 
-pub part-in : (a : Allocator) (s : Store) (n scratch : ℕ) → PartIn (length (s .bytes)) scratch (atom a s n scratch)
+pub part-in : (a : Allocator) (b : List ℕ) (t : AtomSlots) (n scratch : ℕ) → PartIn (length b) scratch (atom a b t n scratch)
 unfolding atom
-part-in a s n scratch =
-    let len = length (s .bytes) in
-    need-ind (PartIn len scratch) (storeSound a s) 1 nil (partOf scratch (atomOf a (s .atoms) n)) (λ e. omega arith)
-    (λ e. part-at len scratch (atomOf a (s .atoms) n) (inside a (s .atoms) n len (store-lent a _ _ _ e .bytes-fit)))
+part-in a b t n scratch =
+    let len = length b in
+    need-ind (PartIn len scratch) (bytesSound a b t) 1 nil (partOf scratch (atomOf a t n)) (λ e. omega arith)
+    (λ e. part-at len scratch (atomOf a t n) (inside a t n len (store-lent a _ _ _ e .bytes-fit)))
 
-pub part-says : (a : Allocator) (s : Store) (n scratch : ℕ) (x : Atom) → atom a s n scratch ≡ says x → PartIn (length (s .bytes)) scratch (says x)
-part-says a s n scratch x h = subst (PartIn (length (s .bytes)) scratch) h (part-in a s n scratch)
+pub part-says : (a : Allocator) (b : List ℕ) (t : AtomSlots) (n scratch : ℕ) (x : Atom) → atom a b t n scratch ≡ says x → PartIn (length b) scratch (says x)
+part-says a b t n scratch x h = subst (PartIn (length b) scratch) h (part-in a b t n scratch)
 
 -- all four bytes of a scratch are written
 pub whole-scratch : (v : ℕ) (scratch : List ℕ) → length scratch ≡ 4 → be 4 v ++ drop 4 scratch ≡ be 4 v
@@ -161,24 +150,24 @@ pub part-tail : (k : ℕ) (l : List ℕ) → take (length l - k) (drop k l) ≡ 
 part-tail k l = take-all (length l - k) (drop k l) (simp length-drop (omega arith))
 
 -- filling the scratch leaves its length, so that the second call answers as the first
-pub fill-length : (a : Allocator) (s : Store) (n : ℕ) (scratch : List ℕ) → length (scratchAfter (atom a s n (length scratch)) scratch) ≡ length scratch
-fill-length a s n scratch = at (atom a s n (length scratch)) (part-in a s n (length scratch))
+pub fill-length : (a : Allocator) (b : List ℕ) (t : AtomSlots) (n : ℕ) (scratch : List ℕ) → length (scratchAfter (atom a b t n (length scratch)) scratch) ≡ length scratch
+fill-length a b t n scratch = at (atom a b t n (length scratch)) (part-in a b t n (length scratch))
   where
-    at : (r : Said Atom) → PartIn (length (s .bytes)) (length scratch) r → length (scratchAfter r scratch) ≡ length scratch
+    at : (r : Said Atom) → PartIn (length b) (length scratch) r → length (scratchAfter r scratch) ≡ length scratch
     at (says (range start end)) p = refl
     at (says (value v)) p = length-be 4 v ∙ sym (p .1)
     at (refuses code node) p = refl
 
 -- once the scratch is filled, the part holds the atom's bytes
-pub part-filled : (a : Allocator) (s : Store) (n len : ℕ) (x : Atom) (scratch : List ℕ) → atom a s n len ≡ says x
-    → partBytes (s .bytes) (scratchAfter (says x) scratch) (says x) ≡ atomBytes (s .bytes) x
-part-filled a s n len (range start end) scratch h = refl
-part-filled a s n len (value v) scratch h = last-bytes v (part-says a s n len (value v) h .0)
+pub part-filled : (a : Allocator) (b : List ℕ) (t : AtomSlots) (n len : ℕ) (x : Atom) (scratch : List ℕ) → atom a b t n len ≡ says x
+    → partBytes b (scratchAfter (says x) scratch) (says x) ≡ atomBytes b x
+part-filled a b t n len (range start end) scratch h = refl
+part-filled a b t n len (value v) scratch h = last-bytes v (part-says a b t n len (value v) h .0)
 
 -- the two calls one after the other are document 01's atom
-pub part-joined : (a : Allocator) (s : Store) (n : ℕ) (x : Atom) (scratch after : List ℕ)
-    → atom a s n (length scratch) ≡ says x → after ≡ scratchAfter (atom a s n (length scratch)) scratch
-    → partBytes (s .bytes) after (atom a s n (length after)) ≡ atomBytes (s .bytes) x
-part-joined a s n x scratch after h e =
-    let k : length after ≡ length scratch = ap length e ∙ fill-length a s n scratch in
-    rw (k, e, h) (part-filled a s n (length scratch) x scratch h)
+pub part-joined : (a : Allocator) (b : List ℕ) (t : AtomSlots) (n : ℕ) (x : Atom) (scratch after : List ℕ)
+    → atom a b t n (length scratch) ≡ says x → after ≡ scratchAfter (atom a b t n (length scratch)) scratch
+    → partBytes b after (atom a b t n (length after)) ≡ atomBytes b x
+part-joined a b t n x scratch after h e =
+    let k : length after ≡ length scratch = ap length e ∙ fill-length a b t n scratch in
+    rw (k, e, h) (part-filled a b t n (length scratch) x scratch h)

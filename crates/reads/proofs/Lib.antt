@@ -1,3 +1,2 @@
 -- Laws about the reading calls.
 pub mod Laws
-pub mod Shows

@@ -6,24 +6,15 @@ use rules::Code;
 use rules::View;
 use state::sound;
 ghost use mathlib.Core.Path.{_≡_};
-ghost use Prim.Native.Nat.{_≤_};
-ghost use lib.ListN.{length};
 ghost use Rattle.rules.specs.Node.{bytesAt};
-ghost use Rattle.rules.specs.State.{atomSlots};
-ghost use Rattle.rules.specs.Reads.{argOf, arg as argRule, atomOf};
+ghost use Rattle.rules.specs.Lent.{atomSlotsIn, AtomsWithin};
+ghost use Rattle.rules.specs.Reads.{argOf, arg as argRule, atomArg, atomOf};
 ghost use Rattle.rules.specs.Paper.{argPaper, atomPaper};
-
-// A number of 32 bits as an index.
-pub fn wide(x: u32) -> usize
-    ensures { λ r. ⌜ r ≡ x ⌝ }
-{
-    x as usize
-}
 
 // The Bytes node of an index, its slot tested.
 fn slot(a: Allocator, starts: &[u32], ends: &[u32], i: usize) -> Arg
-    requires { ⌜ (a .used .atoms ≤ length (now starts)) × (a .used .atoms ≤ length (now ends)) ⌝ }
-    ensures { λ r. ⌜ argPaper r ≡ argOf a (atomSlots (now (starts .entry)) (now (ends .entry))) (bytesAt i) ⌝ }
+    requires { ⌜ AtomsWithin a starts ends ⌝ }
+    ensures { λ r. ⌜ argPaper r ≡ argOf a (atomSlotsIn (starts .entry) (ends .entry)) (bytesAt i) ⌝ }
 {
     if a.used.atoms <= i {
         return Arg::Refused(Code::NotValid, node::NIL);
@@ -31,15 +22,15 @@ fn slot(a: Allocator, starts: &[u32], ends: &[u32], i: usize) -> Arg
     let start = starts[i];
     let end = ends[i];
     if sound::range_sound(start, end, a.used.bytes) {
-        return Arg::Bytes(i, wide(start), wide(end));
+        return Arg::Bytes(i, node::wide(start), node::wide(end));
     }
     Arg::Refused(Code::Unsound, node::NIL)
 }
 
-// A node argument, tested for 5, then its atom slot for 1.
+// A node argument, tested for 5 not valid, then its slot for 1 unsound.
 pub fn arg(a: Allocator, starts: &[u32], ends: &[u32], n: u32) -> Arg
-    requires { ⌜ (a .used .atoms ≤ length (now starts)) × (a .used .atoms ≤ length (now ends)) ⌝ }
-    ensures { λ r. ⌜ argPaper r ≡ argRule a (atomSlots (now (starts .entry)) (now (ends .entry))) n ⌝ }
+    requires { ⌜ AtomsWithin a starts ends ⌝ }
+    ensures { λ r. ⌜ argPaper r ≡ argRule a (atomSlotsIn (starts .entry) (ends .entry)) n ⌝ }
 {
     let view = node::view(n);
     match view {
@@ -55,16 +46,22 @@ pub fn arg(a: Allocator, starts: &[u32], ends: &[u32], n: u32) -> Arg
     }
 }
 
-// An atom argument: a pair is refused with that node.
-pub fn atom_of(a: Allocator, starts: &[u32], ends: &[u32], n: u32) -> Atom
-    requires { ⌜ (a .used .atoms ≤ length (now starts)) × (a .used .atoms ≤ length (now ends)) ⌝ }
-    ensures { λ r. ⌜ atomPaper r ≡ atomOf a (atomSlots (now (starts .entry)) (now (ends .entry))) n ⌝ }
+// An argument as an atom: a pair is refused with that node.
+pub fn atom_arg(n: u32, x: Arg) -> Atom
+    ensures { λ r. ⌜ atomPaper r ≡ atomArg n (argPaper x) ⌝ }
 {
-    let found = arg(a, starts, ends, n);
-    match found {
+    match x {
         Arg::Pair(_) => Atom::Refused(Code::ExpectedAtom, n),
         Arg::Bytes(_, start, end) => Atom::Range(start, end),
         Arg::Small(v) => Atom::Value(v),
         Arg::Refused(code, node) => Atom::Refused(code, node),
     }
+}
+
+// An atom argument, tested for 5 not valid, 1 unsound slot and 6 a pair.
+pub fn atom_of(a: Allocator, starts: &[u32], ends: &[u32], n: u32) -> Atom
+    requires { ⌜ AtomsWithin a starts ends ⌝ }
+    ensures { λ r. ⌜ atomPaper r ≡ atomOf a (atomSlotsIn (starts .entry) (ends .entry)) n ⌝ }
+{
+    atom_arg(n, arg(a, starts, ends, n))
 }

@@ -6,17 +6,17 @@ use rules::Code;
 use rules::Fits;
 use rules::Truth;
 use state::sound;
-ghost use Prim.Native.Nat.{ℕ, _-_, _≤_, _<_};
+ghost use Prim.Native.Nat.{ℕ, _≤_, _<_};
 ghost use mathlib.Core.List.{List};
-ghost use mathlib.Core.Bool.{false};
 ghost use mathlib.Core.Path.{_≡_};
-ghost use lib.ListN.{length, drop};
+ghost use lib.ListN.{length};
 ghost use Rattle.rules.specs.Small.{smallBytes};
 ghost use Rattle.rules.specs.Said.{says, saysOf};
-ghost use Rattle.rules.specs.State.{store, atomSlots};
+ghost use Rattle.rules.specs.Lent.{atomSlotsIn};
 ghost use Rattle.rules.specs.Reads.{pairArg, atomArg, atomBytes, sameBytes, eqArgs, atomEq};
 ghost use Rattle.rules.specs.Paper.{argPaper, atomPaper, truthPaper};
-ghost use Rattle.reads.specs.Parts.{Inside};
+ghost use Rattle.rules.proofs.Args.{Inside};
+ghost use Rattle.reads.specs.Parts.{Ahead};
 
 // The blocks by which long atoms are compared.
 const LARGE: usize = 32;
@@ -45,7 +45,7 @@ fn agree(x: &[u8], y: &[u8]) -> bool
 // How far two byte strings of one length agree from an index on, by whole blocks of a size. Where a whole block is left, it differs.
 fn ahead(x: &[u8], y: &[u8], from: usize, size: usize) -> usize
     requires { ⌜ (length (now x) ≡ length (now y)) × (from ≤ length (now x)) × (0 < size) ⌝ }
-    ensures { λ r. ⌜ (r ≤ length (now (x .entry))) × (sameBytes (drop from (now (x .entry))) (drop from (now (y .entry))) ≡ sameBytes (drop r (now (x .entry))) (drop r (now (y .entry)))) × (size ≤ length (now (x .entry)) - r → sameBytes (drop r (now (x .entry))) (drop r (now (y .entry))) ≡ false) ⌝ }
+    ensures { λ r. ⌜ Ahead (now (x .entry)) (now (y .entry)) from size r ⌝ }
 {
     let mut i = from;
     while size <= x.len() - i {
@@ -99,18 +99,6 @@ fn truth(b: bool) -> Truth
     Truth::No
 }
 
-// An argument as an atom: a pair is refused with that node.
-fn atom_arg(n: u32, x: Arg) -> Atom
-    ensures { λ r. ⌜ atomPaper r ≡ atomArg n (argPaper x) ⌝ }
-{
-    match x {
-        Arg::Pair(_) => Atom::Refused(Code::ExpectedAtom, n),
-        Arg::Bytes(_, start, end) => Atom::Range(start, end),
-        Arg::Small(v) => Atom::Value(v),
-        Arg::Refused(code, node) => Atom::Refused(code, node),
-    }
-}
-
 // The bytes of a Bytes node against the right atom.
 fn bytes_eq(bytes: &[u8], x: &[u8], y: Atom) -> Truth
     requires { ⌜ Inside (length (now bytes)) (atomPaper y) ⌝ }
@@ -135,7 +123,7 @@ fn small_eq(bytes: &[u8], v: u32, y: Atom) -> Truth
     }
 }
 
-// A pair on the left is told after the right argument's 5 and 1.
+// A pair on the left is told after the right argument's own refusals.
 fn pair_left(lhs: u32, right: Arg) -> Truth
     ensures { λ r. ⌜ ((bytes : List ℕ) (rhs i : ℕ) → truthPaper r ≡ eqArgs bytes lhs rhs (says (pairArg i)) (argPaper right)) ⌝ }
 {
@@ -147,7 +135,7 @@ fn pair_left(lhs: u32, right: Arg) -> Truth
     }
 }
 
-// Two arguments after their 5 and 1: 6 with the left if it is a pair, else with the right.
+// Two arguments that passed 5 not valid and 1 unsound slot, or did not: then 6 with the left if it is a pair, else with the right.
 fn eq_args(bytes: &[u8], lhs: u32, rhs: u32, left: Arg, right: Arg) -> Truth
     requires { ⌜ Inside (length (now bytes)) (atomArg lhs (argPaper left)) × Inside (length (now bytes)) (atomArg rhs (argPaper right)) ⌝ }
     ensures { λ r. ⌜ truthPaper r ≡ eqArgs (now (bytes .entry)) lhs rhs (argPaper left) (argPaper right) ⌝ }
@@ -155,12 +143,16 @@ fn eq_args(bytes: &[u8], lhs: u32, rhs: u32, left: Arg, right: Arg) -> Truth
     match left {
         Arg::Refused(code, node) => Truth::Refused(code, node),
         Arg::Pair(_) => pair_left(lhs, right),
-        Arg::Bytes(_, start, end) => bytes_eq(bytes, &bytes[start..end], atom_arg(rhs, right)),
-        Arg::Small(v) => small_eq(bytes, v, atom_arg(rhs, right)),
+        Arg::Bytes(_, start, end) => bytes_eq(
+            bytes,
+            &bytes[start..end],
+            super::arg::atom_arg(rhs, right),
+        ),
+        Arg::Small(v) => small_eq(bytes, v, super::arg::atom_arg(rhs, right)),
     }
 }
 
-// Whether two atoms have the same bytes: 1, then 5 and 1 of the left and of the right, then 6.
+// Whether two atoms have the same bytes: 1 unsound, then 5 not valid and 1 unsound slot of the left, of the right, then 6 a pair.
 pub fn atom_eq(
     a: Allocator,
     bytes: &[u8],
@@ -169,9 +161,9 @@ pub fn atom_eq(
     lhs: u32,
     rhs: u32,
 ) -> Truth
-    ensures { λ r. ⌜ truthPaper r ≡ atomEq a (store (now (bytes .entry)) (atomSlots (now (starts .entry)) (now (ends .entry)))) lhs rhs ⌝ }
+    ensures { λ r. ⌜ truthPaper r ≡ atomEq a (now (bytes .entry)) (atomSlotsIn (starts .entry) (ends .entry)) lhs rhs ⌝ }
 {
-    if sound::store_sound(a, bytes.len(), starts.len(), ends.len()) {
+    if sound::bytes_sound(a, bytes.len(), starts.len(), ends.len()) {
         let left = super::arg::arg(a, starts, ends, lhs);
         let right = super::arg::arg(a, starts, ends, rhs);
         return eq_args(bytes, lhs, rhs, left, right);

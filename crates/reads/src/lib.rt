@@ -18,12 +18,12 @@ use rules::SmallNumber;
 use rules::View;
 use state::sound;
 ghost use mathlib.Core.Path.{_≡_};
-ghost use Prim.Native.Nat.{_≤_, _<_};
+ghost use Prim.Native.Nat.{_<_};
 ghost use lib.ListN.{length};
 ghost use Rattle.rules.specs.Node.{view, bytesAt};
 ghost use Rattle.rules.specs.Small.{fits};
 ghost use Rattle.rules.specs.Said.{says};
-ghost use Rattle.rules.specs.State.{store, atomSlots, pairSlots};
+ghost use Rattle.rules.specs.Lent.{atomSlotsIn, pairSlotsIn, AtomsWithin, PairsWithin};
 ghost use Rattle.rules.specs.Reads.{atomLen, smallNumber, node as nodeRule, childrenOf, branch, sexpOf, sexp as sexpRule, nodeStatus, nodeStatusOf};
 ghost use Rattle.rules.specs.Paper.{numberPaper, smallNumberPaper, visitorPaper, sexpPaper, nextPaper, statusPaper};
 
@@ -36,7 +36,8 @@ pub fn node(
     rests: &[u32],
     n: u32,
 ) -> NodeVisitor
-    ensures { λ r. ⌜ visitorPaper r ≡ nodeRule a (atomSlots (now (starts .entry)) (now (ends .entry))) (pairSlots (now (firsts .entry)) (now (rests .entry))) n ⌝ }
+    ensures { λ r. ⌜ visitorPaper r
+        ≡ nodeRule a (atomSlotsIn (starts .entry) (ends .entry)) (pairSlotsIn (firsts .entry) (rests .entry)) n ⌝ }
 {
     if sound::slots_sound(a, starts.len(), ends.len(), firsts.len(), rests.len()) {
         let atoms = a.used.atoms;
@@ -61,7 +62,7 @@ pub fn node(
 // The children of a pair whose slot is lent, tested.
 fn children(a: Allocator, firsts: &[u32], rests: &[u32], i: usize) -> SExp
     requires { ⌜ (i < length (now firsts)) × (i < length (now rests)) ⌝ }
-    ensures { λ r. ⌜ sexpPaper r ≡ childrenOf a (pairSlots (now (firsts .entry)) (now (rests .entry))) i branch ⌝ }
+    ensures { λ r. ⌜ sexpPaper r ≡ childrenOf a (pairSlotsIn (firsts .entry) (rests .entry)) i branch ⌝ }
 {
     let first = firsts[i];
     let rest = rests[i];
@@ -73,8 +74,8 @@ fn children(a: Allocator, firsts: &[u32], rests: &[u32], i: usize) -> SExp
 
 // Whether a node is an atom, or its two children, beside a sound record.
 fn sexp_of(a: Allocator, firsts: &[u32], rests: &[u32], n: u32) -> SExp
-    requires { ⌜ (a .used .pairs ≤ length (now firsts)) × (a .used .pairs ≤ length (now rests)) ⌝ }
-    ensures { λ r. ⌜ sexpPaper r ≡ sexpOf a (pairSlots (now (firsts .entry)) (now (rests .entry))) (view n) ⌝ }
+    requires { ⌜ PairsWithin a firsts rests ⌝ }
+    ensures { λ r. ⌜ sexpPaper r ≡ sexpOf a (pairSlotsIn (firsts .entry) (rests .entry)) (view n) ⌝ }
 {
     let view = node::view(n);
     match view {
@@ -97,7 +98,7 @@ fn sexp_of(a: Allocator, firsts: &[u32], rests: &[u32], n: u32) -> SExp
 
 // Whether a node is an atom, or its two children.
 pub fn sexp(a: Allocator, firsts: &[u32], rests: &[u32], n: u32) -> SExp
-    ensures { λ r. ⌜ sexpPaper r ≡ sexpRule a (pairSlots (now (firsts .entry)) (now (rests .entry))) n ⌝ }
+    ensures { λ r. ⌜ sexpPaper r ≡ sexpRule a (pairSlotsIn (firsts .entry) (rests .entry)) n ⌝ }
 {
     if sound::pairs_sound(a, firsts.len(), rests.len()) {
         return sexp_of(a, firsts, rests, n);
@@ -107,7 +108,7 @@ pub fn sexp(a: Allocator, firsts: &[u32], rests: &[u32], n: u32) -> SExp
 
 // The children of a pair, for a walk along a list; an atom has none.
 pub fn next(a: Allocator, firsts: &[u32], rests: &[u32], n: u32) -> Next
-    ensures { λ r. ⌜ nextPaper r ≡ sexpRule a (pairSlots (now (firsts .entry)) (now (rests .entry))) n ⌝ }
+    ensures { λ r. ⌜ nextPaper r ≡ sexpRule a (pairSlotsIn (firsts .entry) (rests .entry)) n ⌝ }
 {
     let found = sexp(a, firsts, rests, n);
     match found {
@@ -119,7 +120,7 @@ pub fn next(a: Allocator, firsts: &[u32], rests: &[u32], n: u32) -> Next
 
 // How many bytes an atom has.
 pub fn atom_len(a: Allocator, starts: &[u32], ends: &[u32], n: u32) -> Number
-    ensures { λ r. ⌜ numberPaper r ≡ atomLen a (atomSlots (now (starts .entry)) (now (ends .entry))) n ⌝ }
+    ensures { λ r. ⌜ numberPaper r ≡ atomLen a (atomSlotsIn (starts .entry) (ends .entry)) n ⌝ }
 {
     if sound::atoms_sound(a, starts.len(), ends.len()) {
         let found = arg::atom_of(a, starts, ends, n);
@@ -134,9 +135,9 @@ pub fn atom_len(a: Allocator, starts: &[u32], ends: &[u32], n: u32) -> Number
 
 // The value of an atom whose bytes are those of a small one, whatever its kind.
 pub fn small_number(a: Allocator, bytes: &[u8], starts: &[u32], ends: &[u32], n: u32) -> SmallNumber
-    ensures { λ r. ⌜ smallNumberPaper r ≡ smallNumber a (store (now (bytes .entry)) (atomSlots (now (starts .entry)) (now (ends .entry)))) n ⌝ }
+    ensures { λ r. ⌜ smallNumberPaper r ≡ smallNumber a (now (bytes .entry)) (atomSlotsIn (starts .entry) (ends .entry)) n ⌝ }
 {
-    if sound::store_sound(a, bytes.len(), starts.len(), ends.len()) {
+    if sound::bytes_sound(a, bytes.len(), starts.len(), ends.len()) {
         let found = arg::arg(a, starts, ends, n);
         match found {
             Arg::Pair(_) => return SmallNumber::Nothing,
@@ -161,8 +162,8 @@ fn small_of(v: &[u8]) -> SmallNumber
 
 // The status of the Bytes node of an index: its slot is tested only where it is read.
 fn bytes_status(a: Allocator, starts: &[u32], ends: &[u32], k: Counts, i: usize) -> NodeStatus
-    requires { ⌜ (a .used .atoms ≤ length (now starts)) × (a .used .atoms ≤ length (now ends)) ⌝ }
-    ensures { λ r. ⌜ statusPaper r ≡ nodeStatusOf k a (atomSlots (now (starts .entry)) (now (ends .entry))) (bytesAt i) ⌝ }
+    requires { ⌜ AtomsWithin a starts ends ⌝ }
+    ensures { λ r. ⌜ statusPaper r ≡ nodeStatusOf k a (atomSlotsIn (starts .entry) (ends .entry)) (bytesAt i) ⌝ }
 {
     if a.used.atoms <= i {
         return NodeStatus::Refused(Code::NotValid, node::NIL);
@@ -173,9 +174,9 @@ fn bytes_status(a: Allocator, starts: &[u32], ends: &[u32], k: Counts, i: usize)
     let start = starts[i];
     let end = ends[i];
     if sound::range_sound(start, end, a.used.bytes) {
-        let from = arg::wide(start);
+        let from = node::wide(start);
         if from < k.bytes {
-            return NodeStatus::AfterOldBytes(from, arg::wide(end));
+            return NodeStatus::AfterOldBytes(from, node::wide(end));
         }
         return NodeStatus::AfterNewBytes;
     }
@@ -184,8 +185,8 @@ fn bytes_status(a: Allocator, starts: &[u32], ends: &[u32], k: Counts, i: usize)
 
 // The status of a node beside a sound record.
 fn status_of(a: Allocator, starts: &[u32], ends: &[u32], k: Counts, n: u32) -> NodeStatus
-    requires { ⌜ (a .used .atoms ≤ length (now starts)) × (a .used .atoms ≤ length (now ends)) ⌝ }
-    ensures { λ r. ⌜ statusPaper r ≡ nodeStatusOf k a (atomSlots (now (starts .entry)) (now (ends .entry))) (view n) ⌝ }
+    requires { ⌜ AtomsWithin a starts ends ⌝ }
+    ensures { λ r. ⌜ statusPaper r ≡ nodeStatusOf k a (atomSlotsIn (starts .entry) (ends .entry)) (view n) ⌝ }
 {
     let view = node::view(n);
     match view {
@@ -212,7 +213,7 @@ pub fn checkpoint_node_status(
     k: Counts,
     n: u32,
 ) -> NodeStatus
-    ensures { λ r. ⌜ statusPaper r ≡ nodeStatus k a (atomSlots (now (starts .entry)) (now (ends .entry))) n ⌝ }
+    ensures { λ r. ⌜ statusPaper r ≡ nodeStatus k a (atomSlotsIn (starts .entry) (ends .entry)) n ⌝ }
 {
     if sound::atoms_sound(a, starts.len(), ends.len()) {
         return status_of(a, starts, ends, k, n);

@@ -5,12 +5,11 @@ use rules::Code;
 use rules::Verdict;
 use state::sound;
 ghost use mathlib.Core.Path.{_≡_};
-ghost use lib.ListN.{length};
 ghost use Rattle.rules.specs.Said.{done, saysOf};
-ghost use Rattle.rules.specs.State.{store, atomSlots};
+ghost use Rattle.rules.specs.Lent.{atomSlotsIn};
 ghost use Rattle.rules.specs.Reads.{atom as atomRule, scratchAfter, partBytes};
 ghost use Rattle.rules.specs.Paper.{atomPaper, verdictPaper};
-ghost use Rattle.reads.specs.Parts.{blockOf, offsetOf};
+ghost use Rattle.reads.specs.Parts.{blockOf, offsetOf, atomLent};
 
 // Where an atom's bytes are to be found, beside a scratch of this length.
 fn part_of(
@@ -21,9 +20,9 @@ fn part_of(
     n: u32,
     scratch: usize,
 ) -> rules::Atom
-    ensures { λ r. ⌜ atomPaper r ≡ atomRule a (store (now (bytes .entry)) (atomSlots (now (starts .entry)) (now (ends .entry)))) n scratch ⌝ }
+    ensures { λ r. ⌜ atomPaper r ≡ atomRule a (now (bytes .entry)) (atomSlotsIn (starts .entry) (ends .entry)) n scratch ⌝ }
 {
-    if sound::store_sound(a, bytes.len(), starts.len(), ends.len()) {
+    if sound::bytes_sound(a, bytes.len(), starts.len(), ends.len()) {
         let found = super::arg::atom_of(a, starts, ends, n);
         match found {
             rules::Atom::Range(start, end) => return rules::Atom::Range(start, end),
@@ -48,8 +47,9 @@ pub fn filled(
     scratch: &mut [u8],
     n: u32,
 ) -> rules::Atom
-    ensures { λ r. ⌜ atomPaper r ≡ atomRule a (store (now (bytes .entry)) (atomSlots (now (starts .entry)) (now (ends .entry)))) n (length (now (scratch .entry))) ⌝ }
-    ensures { λ _. ⌜ now (scratch .exit) ≡ scratchAfter (atomRule a (store (now (bytes .entry)) (atomSlots (now (starts .entry)) (now (ends .entry)))) n (length (now (scratch .entry)))) (now (scratch .entry)) ⌝ }
+    ensures { λ r. ⌜ atomPaper r ≡ atomLent a (bytes .entry) (starts .entry) (ends .entry) (scratch .entry) n ⌝ }
+    ensures { λ _. ⌜ now (scratch .exit)
+        ≡ scratchAfter (atomLent a (bytes .entry) (starts .entry) (ends .entry) (scratch .entry) n) (now (scratch .entry)) ⌝ }
 {
     let part = part_of(a, bytes, starts, ends, n, scratch.len());
     match part {
@@ -71,8 +71,9 @@ pub fn fill(
     scratch: &mut [u8],
     n: u32,
 ) -> Verdict
-    ensures { λ r. ⌜ verdictPaper r ≡ saysOf (λ x. done) (atomRule a (store (now (bytes .entry)) (atomSlots (now (starts .entry)) (now (ends .entry)))) n (length (now (scratch .entry)))) ⌝ }
-    ensures { λ _. ⌜ now (scratch .exit) ≡ scratchAfter (atomRule a (store (now (bytes .entry)) (atomSlots (now (starts .entry)) (now (ends .entry)))) n (length (now (scratch .entry)))) (now (scratch .entry)) ⌝ }
+    ensures { λ r. ⌜ verdictPaper r ≡ saysOf (λ x. done) (atomLent a (bytes .entry) (starts .entry) (ends .entry) (scratch .entry) n) ⌝ }
+    ensures { λ _. ⌜ now (scratch .exit)
+        ≡ scratchAfter (atomLent a (bytes .entry) (starts .entry) (ends .entry) (scratch .entry) n) (now (scratch .entry)) ⌝ }
 {
     let part = filled(a, bytes, starts, ends, scratch, n);
     match part {
@@ -91,9 +92,12 @@ pub fn atom<'a>(
     scratch: &'a [u8],
     n: u32,
 ) -> &'a [u8]
-    ensures { λ r. ⌜ now r ≡ partBytes (now (bytes .entry)) (now (scratch .entry)) (atomRule a (store (now (bytes .entry)) (atomSlots (now (starts .entry)) (now (ends .entry)))) n (length (now (scratch .entry)))) ⌝ }
-    ensures { λ r. ⌜ r .ptr .0 ≡ blockOf (bytes .entry .ptr .0) (scratch .entry .ptr .0) (atomRule a (store (now (bytes .entry)) (atomSlots (now (starts .entry)) (now (ends .entry)))) n (length (now (scratch .entry)))) ⌝ }
-    ensures { λ r. ⌜ r .ptr .1 ≡ offsetOf (bytes .entry .ptr .1) (scratch .entry .ptr .1) (atomRule a (store (now (bytes .entry)) (atomSlots (now (starts .entry)) (now (ends .entry)))) n (length (now (scratch .entry)))) ⌝ }
+    ensures { λ r. ⌜ now r
+        ≡ partBytes (now (bytes .entry)) (now (scratch .entry)) (atomLent a (bytes .entry) (starts .entry) (ends .entry) (scratch .entry) n) ⌝ }
+    ensures { λ r. ⌜ r .ptr .0
+        ≡ blockOf (bytes .entry .ptr .0) (scratch .entry .ptr .0) (atomLent a (bytes .entry) (starts .entry) (ends .entry) (scratch .entry) n) ⌝ }
+    ensures { λ r. ⌜ r .ptr .1
+        ≡ offsetOf (bytes .entry .ptr .1) (scratch .entry .ptr .1) (atomLent a (bytes .entry) (starts .entry) (ends .entry) (scratch .entry) n) ⌝ }
 {
     let part = part_of(a, bytes, starts, ends, n, scratch.len());
     match part {

@@ -10,6 +10,7 @@ use clvm_allocator::answers::CStatus;
 use clvm_allocator::answers::CVisited;
 use rules::Allocator;
 use rules::Counts;
+use words::CheckpointWords;
 
 pub struct Seen {
     pub code: u32,
@@ -116,7 +117,7 @@ pub fn of_status(r: CStatus) -> Seen {
 }
 
 // A checkpoint's numbers; a transparent one has three.
-pub fn of_row(r: CAnswer, k: [usize; 6]) -> Seen {
+pub fn of_row(r: CAnswer, k: CheckpointWords) -> Seen {
     Seen {
         code: r.code,
         node: r.node,

@@ -6,52 +6,54 @@ use super::contents;
 use super::data;
 use super::data::Six;
 use clvm_allocator::answers::CPart;
-use clvm_allocator::bits;
-use clvm_allocator::creation;
-use clvm_allocator::lookup;
-use clvm_allocator::record;
-use clvm_allocator::restoring;
+use clvm_allocator::c_concat;
+use clvm_allocator::c_creates;
+use clvm_allocator::c_node;
+use clvm_allocator::c_reads;
+use clvm_allocator::c_restores;
+use clvm_allocator::c_state;
 use rules::Allocator;
+use words::RecordWords;
 ghost use Prim.Native.Nat.{_≤_, _^_};
 ghost use lib.ListN.{length};
 
 // A node's bits, and bytes alone.
 fn of_bits(call: u64, n: u32, t: &[u8]) -> Seen {
     match call {
-        1 => answers::of_number(bits::clvm_object_type(n)),
-        2 => answers::of_number(bits::clvm_index(n)),
-        3 => answers::of_number(bits::clvm_is_atom(n)),
-        4 => answers::of_number(bits::clvm_is_pair(n)),
-        5 => answers::of_option(bits::clvm_fits_in_small_atom(t)),
-        _ => answers::of_length(bits::clvm_len_for_value(n)),
+        1 => answers::of_number(c_node::clvm_object_type(n)),
+        2 => answers::of_number(c_node::clvm_index(n)),
+        3 => answers::of_number(c_node::clvm_is_atom(n)),
+        4 => answers::of_number(c_node::clvm_is_pair(n)),
+        5 => answers::of_option(c_node::clvm_fits_in_small_atom(t)),
+        _ => answers::of_length(c_node::clvm_len_for_value(n)),
     }
 }
 
-fn of_counts(call: u64, a: &[usize; 7]) -> Seen {
+fn of_counts(call: u64, a: &RecordWords) -> Seen {
     match call {
-        7 => answers::of_number(record::clvm_atom_count(a)),
-        8 => answers::of_number(record::clvm_allocated_atom_count(a)),
-        9 => answers::of_number(record::clvm_pair_count(a)),
-        10 => answers::of_number(record::clvm_allocated_pair_count(a)),
-        11 => answers::of_number(record::clvm_heap_size(a)),
-        _ => answers::of_number(record::clvm_allocated_heap_size(a)),
+        7 => answers::of_number(c_state::clvm_atom_count(a)),
+        8 => answers::of_number(c_state::clvm_allocated_atom_count(a)),
+        9 => answers::of_number(c_state::clvm_pair_count(a)),
+        10 => answers::of_number(c_state::clvm_allocated_pair_count(a)),
+        11 => answers::of_number(c_state::clvm_heap_size(a)),
+        _ => answers::of_number(c_state::clvm_allocated_heap_size(a)),
     }
 }
 
 // The checkpoints: a refused call leaves the noughts that were there.
-fn of_plain(a: &[usize; 7]) -> Seen {
+fn of_plain(a: &RecordWords) -> Seen {
     let mut k = [0usize; 6];
-    let r = record::clvm_checkpoint_of(a, &mut k);
+    let r = c_state::clvm_checkpoint_of(a, &mut k);
     answers::of_row(r, k)
 }
 
-fn of_transparent(a: &[usize; 7]) -> Seen {
+fn of_transparent(a: &RecordWords) -> Seen {
     let mut k = [0usize; 3];
-    let r = record::clvm_transparent_checkpoint(a, &mut k);
+    let r = c_state::clvm_transparent_checkpoint(a, &mut k);
     answers::of_row(r, [k[0], k[1], k[2], 0, 0, 0])
 }
 
-fn of_taking(call: u64, a: &[usize; 7]) -> Seen {
+fn of_taking(call: u64, a: &RecordWords) -> Seen {
     match call {
         13 => of_plain(a),
         _ => of_transparent(a),
@@ -62,7 +64,7 @@ fn of_taking(call: u64, a: &[usize; 7]) -> Seen {
 fn of_restores(
     call: u64,
     x: Six,
-    a: &mut [usize; 7],
+    a: &mut RecordWords,
     starts: &[u32],
     ends: &[u32],
     firsts: &[u32],
@@ -71,7 +73,7 @@ fn of_restores(
     let used = data::transparent(x);
     let plain = data::plain(x);
     match call {
-        15 => answers::of_answer(restoring::clvm_restore_checkpoint(
+        15 => answers::of_answer(c_restores::clvm_restore_checkpoint(
             a,
             starts,
             ends,
@@ -79,7 +81,7 @@ fn of_restores(
             rests,
             &plain,
         )),
-        _ => answers::of_answer(restoring::clvm_restore_transparent_checkpoint(
+        _ => answers::of_answer(c_restores::clvm_restore_transparent_checkpoint(
             a,
             starts,
             ends,
@@ -120,15 +122,15 @@ fn of_atoms(
     call: u64,
     x: Six,
     t: &[u8],
-    a: &mut [usize; 7],
+    a: &mut RecordWords,
     bytes: &mut [u8],
     starts: &mut [u32],
     ends: &mut [u32],
 ) -> Seen {
     match call {
-        19 => answers::of_answer(creation::clvm_new_atom(a, bytes, starts, ends, t)),
-        21 => answers::of_answer(creation::clvm_new_u64(a, bytes, starts, ends, x.a)),
-        22 => answers::of_answer(creation::clvm_new_i64(a, bytes, starts, ends, signed(x.a, x.b))),
+        19 => answers::of_answer(c_creates::clvm_new_atom(a, bytes, starts, ends, t)),
+        21 => answers::of_answer(c_creates::clvm_new_u64(a, bytes, starts, ends, x.a)),
+        22 => answers::of_answer(c_creates::clvm_new_i64(a, bytes, starts, ends, signed(x.a, x.b))),
         _ => of_substr(
             a,
             bytes,
@@ -142,7 +144,7 @@ fn of_atoms(
 }
 
 fn of_substr(
-    a: &mut [usize; 7],
+    a: &mut RecordWords,
     bytes: &mut [u8],
     starts: &mut [u32],
     ends: &mut [u32],
@@ -150,13 +152,13 @@ fn of_substr(
     start: u32,
     end: u32,
 ) -> Seen {
-    answers::of_answer(creation::clvm_new_substr(a, bytes, starts, ends, n, start, end))
+    answers::of_answer(c_creates::clvm_new_substr(a, bytes, starts, ends, n, start, end))
 }
 
 fn of_concat(
     x: Six,
     t: &[u8],
-    a: &mut [usize; 7],
+    a: &mut RecordWords,
     bytes: &mut [u8],
     starts: &mut [u32],
     ends: &mut [u32],
@@ -171,13 +173,13 @@ fn of_nodes(
     size: usize,
     nodes: &[u32],
     n: usize,
-    a: &mut [usize; 7],
+    a: &mut RecordWords,
     bytes: &mut [u8],
     starts: &mut [u32],
     ends: &mut [u32],
 ) -> Seen {
     if n <= nodes.len() {
-        return answers::of_answer(creation::clvm_new_concat(
+        return answers::of_answer(c_concat::clvm_new_concat(
             a,
             bytes,
             starts,
@@ -186,24 +188,24 @@ fn of_nodes(
             &nodes[..n],
         ));
     }
-    answers::of_answer(creation::clvm_new_concat(a, bytes, starts, ends, size, nodes))
+    answers::of_answer(c_concat::clvm_new_concat(a, bytes, starts, ends, size, nodes))
 }
 
 // The calls that change ghosts alone.
-fn of_ghosts(call: u64, x: Six, a: &mut [usize; 7]) -> Seen {
+fn of_ghosts(call: u64, x: Six, a: &mut RecordWords) -> Seen {
     let amount = data::size(x.a);
     match call {
-        20 => answers::of_answer(creation::clvm_new_small_number(a, data::low(x.a))),
-        24 => answers::of_answer(creation::clvm_add_ghost_pair(a, amount)),
-        25 => answers::of_answer(creation::clvm_remove_ghost_pair(a, amount)),
-        _ => answers::of_answer(creation::clvm_add_ghost_atom(a, amount)),
+        20 => answers::of_answer(c_creates::clvm_new_small_number(a, data::low(x.a))),
+        24 => answers::of_answer(c_creates::clvm_add_ghost_pair(a, amount)),
+        25 => answers::of_answer(c_creates::clvm_remove_ghost_pair(a, amount)),
+        _ => answers::of_answer(c_creates::clvm_add_ghost_atom(a, amount)),
     }
 }
 
 // A limit that is refused leaves the allocator that was there.
-fn of_fresh(limit: usize, a: &mut [usize; 7]) -> Seen {
+fn of_fresh(limit: usize, a: &mut RecordWords) -> Seen {
     let mut fresh = [0usize; 7];
-    let r = record::clvm_new_limited(&mut fresh, limit);
+    let r = c_state::clvm_new_limited(&mut fresh, limit);
     if r.code == 0 {
         *a = fresh;
     }
@@ -212,7 +214,7 @@ fn of_fresh(limit: usize, a: &mut [usize; 7]) -> Seen {
 
 // atom, with the first part of a scratch.
 fn of_scratch(
-    a: &[usize; 7],
+    a: &RecordWords,
     bytes: &[u8],
     starts: &[u32],
     ends: &[u32],
@@ -222,12 +224,12 @@ fn of_scratch(
 ) -> CPart
     requires { ⌜ size ≤ length (now scratch) ⌝ }
 {
-    lookup::clvm_atom(a, bytes, starts, ends, &mut scratch[..size], n)
+    c_reads::clvm_atom(a, bytes, starts, ends, &mut scratch[..size], n)
 }
 
 // What it answers, and what the scratch then holds.
 fn of_part(
-    a: &[usize; 7],
+    a: &RecordWords,
     bytes: &[u8],
     starts: &[u32],
     ends: &[u32],
@@ -242,7 +244,7 @@ fn of_part(
     answers::of_part(part, data::be4(scratch))
 }
 
-fn of_atom(x: Six, a: &[usize; 7], bytes: &[u8], starts: &[u32], ends: &[u32]) -> Seen {
+fn of_atom(x: Six, a: &RecordWords, bytes: &[u8], starts: &[u32], ends: &[u32]) -> Seen {
     let mut scratch = [0u8; 8];
     of_part(
         a,
@@ -256,36 +258,43 @@ fn of_atom(x: Six, a: &[usize; 7], bytes: &[u8], starts: &[u32], ends: &[u32]) -
 }
 
 // The reads of bytes and atom slots.
-fn of_reads(call: u64, x: Six, a: &[usize; 7], bytes: &[u8], starts: &[u32], ends: &[u32]) -> Seen {
+fn of_reads(
+    call: u64,
+    x: Six,
+    a: &RecordWords,
+    bytes: &[u8],
+    starts: &[u32],
+    ends: &[u32],
+) -> Seen {
     let n = data::low(x.a);
     match call {
         17 => of_status(x, a, starts, ends),
-        29 => answers::of_number(lookup::clvm_atom_eq(a, bytes, starts, ends, n, data::low(x.b))),
+        29 => answers::of_number(c_reads::clvm_atom_eq(a, bytes, starts, ends, n, data::low(x.b))),
         30 => of_atom(x, a, bytes, starts, ends),
-        31 => answers::of_number(lookup::clvm_atom_len(a, starts, ends, n)),
-        _ => answers::of_option(lookup::clvm_small_number(a, bytes, starts, ends, n)),
+        31 => answers::of_number(c_reads::clvm_atom_len(a, starts, ends, n)),
+        _ => answers::of_option(c_reads::clvm_small_number(a, bytes, starts, ends, n)),
     }
 }
 
-fn of_status(x: Six, a: &[usize; 7], starts: &[u32], ends: &[u32]) -> Seen {
+fn of_status(x: Six, a: &RecordWords, starts: &[u32], ends: &[u32]) -> Seen {
     let used = data::transparent(x);
-    answers::of_status(lookup::clvm_checkpoint_node_status(a, starts, ends, &used, data::low(x.d)))
+    answers::of_status(c_reads::clvm_checkpoint_node_status(a, starts, ends, &used, data::low(x.d)))
 }
 
 // The reads of pair slots.
 fn of_pairs(
     call: u64,
     n: u32,
-    a: &[usize; 7],
+    a: &RecordWords,
     starts: &[u32],
     ends: &[u32],
     firsts: &[u32],
     rests: &[u32],
 ) -> Seen {
     match call {
-        33 => answers::of_visited(lookup::clvm_node(a, starts, ends, firsts, rests, n)),
-        34 => answers::of_children(lookup::clvm_sexp(a, firsts, rests, n)),
-        _ => answers::of_children(lookup::clvm_next(a, firsts, rests, n)),
+        33 => answers::of_visited(c_reads::clvm_node(a, starts, ends, firsts, rests, n)),
+        34 => answers::of_children(c_reads::clvm_sexp(a, firsts, rests, n)),
+        _ => answers::of_children(c_reads::clvm_next(a, firsts, rests, n)),
     }
 }
 
@@ -294,7 +303,7 @@ fn of_store(
     call: u64,
     x: Six,
     t: &[u8],
-    a: &mut [usize; 7],
+    a: &mut RecordWords,
     bytes: &mut [u8],
     starts: &mut [u32],
     ends: &mut [u32],
@@ -310,7 +319,7 @@ fn of_store(
 
 fn of_maybe(
     x: Six,
-    a: &mut [usize; 7],
+    a: &mut RecordWords,
     bytes: &mut [u8],
     starts: &mut [u32],
     ends: &mut [u32],
@@ -319,7 +328,7 @@ fn of_maybe(
 ) -> Seen {
     let used = data::transparent(x);
     let n = data::low(x.d);
-    answers::of_restored(restoring::clvm_maybe_restore_with_node(
+    answers::of_restored(c_restores::clvm_maybe_restore_with_node(
         a,
         bytes,
         starts,
@@ -336,7 +345,7 @@ fn of_looks(
     call: u64,
     x: Six,
     t: &[u8],
-    a: &[usize; 7],
+    a: &RecordWords,
     bytes: &[u8],
     starts: &[u32],
     ends: &[u32],
@@ -357,7 +366,7 @@ fn of_rest(
     call: u64,
     x: Six,
     t: &[u8],
-    a: &mut [usize; 7],
+    a: &mut RecordWords,
     bytes: &[u8],
     starts: &[u32],
     ends: &[u32],
@@ -372,17 +381,17 @@ fn of_rest(
     }
 }
 
-fn of_pair(x: Six, a: &mut [usize; 7], firsts: &mut [u32], rests: &mut [u32]) -> Seen {
+fn of_pair(x: Six, a: &mut RecordWords, firsts: &mut [u32], rests: &mut [u32]) -> Seen {
     let first = data::low(x.a);
     let rest = data::low(x.b);
-    answers::of_answer(creation::clvm_new_pair(a, firsts, rests, first, rest))
+    answers::of_answer(c_creates::clvm_new_pair(a, firsts, rests, first, rest))
 }
 
 fn of_call(
     call: u64,
     x: Six,
     t: &[u8],
-    a: &mut [usize; 7],
+    a: &mut RecordWords,
     bytes: &mut [u8],
     starts: &mut [u32],
     ends: &mut [u32],
@@ -408,10 +417,10 @@ pub fn make(
     firsts: &mut [u32],
     rests: &mut [u32],
 ) -> Done {
-    let mut row = rows::of_record(a);
+    let mut row = words::of_record(a);
     let seen = of_call(call, x, t, &mut row, bytes, starts, ends, firsts, rests);
     Done {
         seen: seen,
-        state: rows::record(&row),
+        state: words::record(&row),
     }
 }

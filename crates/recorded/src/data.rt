@@ -1,6 +1,8 @@
 // Numbers of the data. Where the data ends too early a number is 0, and an answer that is compared with it is wrong.
 use rules::Allocator;
 use rules::Counts;
+use words::CheckpointWords;
+use words::CountsWords;
 ghost use Prim.Native.Nat.{_<_};
 
 // A number, and where the next one begins.
@@ -147,11 +149,11 @@ pub fn numbers(b: &[u8], at: usize) -> Six {
 }
 
 // A transparent checkpoint, and a plain one.
-pub fn transparent(n: Six) -> [usize; 3] {
+pub fn transparent(n: Six) -> CountsWords {
     [size(n.a), size(n.b), size(n.c)]
 }
 
-pub fn plain(n: Six) -> [usize; 6] {
+pub fn plain(n: Six) -> CheckpointWords {
     [
         size(n.a),
         size(n.b),

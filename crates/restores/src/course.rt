@@ -5,17 +5,16 @@ use rules::Arg;
 use rules::Code;
 use rules::Counts;
 use rules::NodeVisitor;
+use state::record;
 use state::sound;
 ghost use mathlib.Core.Path.{_≡_};
 ghost use mathlib.Core.Bool.{_&&_, true};
-ghost use Prim.Native.Nat.{_+_, _≤_};
 ghost use lib.Dec.{leb};
-ghost use lib.ListN.{length};
-ghost use Rattle.rules.specs.State.{atomSlots, pairSlots, lists, slotsSound};
+ghost use Rattle.rules.specs.State.{slotsSound};
+ghost use Rattle.rules.specs.Lent.{atomSlotsIn, pairSlotsIn, listsIn, AtomsWithin, PairsWithin};
 ghost use Rattle.rules.specs.Said.{says};
 ghost use Rattle.rules.specs.Reads.{Arg as ArgRule, arg as argRule};
-ghost use Rattle.rules.specs.Restores.{usable as usableRule, savings as savingsRule, newCourse, nodeCourse, course as courseRule};
-ghost use Rattle.rules.proofs.Limits.{Limits};
+ghost use Rattle.rules.specs.Restores.{usable as usableRule, newCourse, nodeCourse, course as courseRule};
 ghost use Rattle.restores.specs.Course.{coursePaper};
 
 // An atom of more bytes is not cloned.
@@ -54,8 +53,9 @@ pub fn usable(
     firsts: &[u32],
     rests: &[u32],
 ) -> bool
-    requires { ⌜ (a .used .atoms ≤ length (now starts)) × (a .used .atoms ≤ length (now ends)) × (a .used .pairs ≤ length (now firsts)) × (a .used .pairs ≤ length (now rests)) ⌝ }
-    ensures { λ r. ⌜ r ≡ usableRule k a (atomSlots (now (starts .entry)) (now (ends .entry))) (pairSlots (now (firsts .entry)) (now (rests .entry))) ⌝ }
+    requires { ⌜ AtomsWithin a starts ends × PairsWithin a firsts rests ⌝ }
+    ensures { λ r. ⌜ r
+        ≡ usableRule k a (atomSlotsIn (starts .entry) (ends .entry)) (pairSlotsIn (firsts .entry) (rests .entry)) ⌝ }
 {
     let used = a.used;
     if within(k, used) {
@@ -64,15 +64,6 @@ pub fn usable(
         }
     }
     false
-}
-
-// Bytes cut + 8 × (atoms cut + pairs cut).
-fn savings(k: Counts, a: Allocator) -> usize
-    requires { ⌜ Limits a ⌝ }
-    requires { ⌜ (k .bytes ≤ a .used .bytes) × (k .atoms ≤ a .used .atoms) × (k .pairs ≤ a .used .pairs) ⌝ }
-    ensures { λ r. ⌜ r ≡ savingsRule k a ⌝ }
-{
-    (a.used.bytes - k.bytes) + 8 * ((a.used.atoms - k.atoms) + (a.used.pairs - k.pairs))
 }
 
 // A node whose bytes are new: an atom of few bytes can be made again; the heap is tested before anything is cut.
@@ -84,8 +75,9 @@ fn new_course(
     rests: &[u32],
     n: u32,
 ) -> Course
-    requires { ⌜ slotsSound a (atomSlots (now starts) (now ends)) (pairSlots (now firsts) (now rests)) ≡ true ⌝ }
-    ensures { λ r. ⌜ ((x : ArgRule) → argRule a (atomSlots (now (starts .entry)) (now (ends .entry))) n ≡ says x → coursePaper r ≡ newCourse a x) ⌝ }
+    requires { ⌜ slotsSound a (atomSlotsIn starts ends) (pairSlotsIn firsts rests) ≡ true ⌝ }
+    ensures { λ r. ⌜ ((x : ArgRule) → argRule a (atomSlotsIn (starts .entry) (ends .entry)) n
+        ≡ says x → coursePaper r ≡ newCourse a x) ⌝ }
 {
     let found = reads::node(a, starts, ends, firsts, rests, n);
     let NodeVisitor::Buffer(start, end) = found else {
@@ -100,7 +92,7 @@ fn new_course(
     Course::Copy(start, end)
 }
 
-// By the status of the node: before the checkpoint, with old bytes, or with new ones: 5, 1, 12.
+// By the status of the node: before the checkpoint, with old bytes, or with new ones: 5 not valid, 1 unsound slot, 12 invalid range.
 fn node_course(
     k: Counts,
     a: Allocator,
@@ -110,8 +102,8 @@ fn node_course(
     rests: &[u32],
     n: u32,
 ) -> Course
-    requires { ⌜ slotsSound a (atomSlots (now starts) (now ends)) (pairSlots (now firsts) (now rests)) ≡ true ⌝ }
-    ensures { λ r. ⌜ coursePaper r ≡ nodeCourse k a (argRule a (atomSlots (now (starts .entry)) (now (ends .entry))) n) ⌝ }
+    requires { ⌜ slotsSound a (atomSlotsIn starts ends) (pairSlotsIn firsts rests) ≡ true ⌝ }
+    ensures { λ r. ⌜ coursePaper r ≡ nodeCourse k a (argRule a (atomSlotsIn (starts .entry) (ends .entry)) n) ⌝ }
 {
     let found = arg::arg(a, starts, ends, n);
     match found {
@@ -138,7 +130,7 @@ fn node_course(
     }
 }
 
-// All in order: 1, 11, the savings with no look at the node, then the node.
+// All in order: 1 unsound, 11 not usable, the savings with no look at the node, then the node.
 pub fn course_of(
     k: Counts,
     a: Allocator,
@@ -149,7 +141,8 @@ pub fn course_of(
     rests: &[u32],
     n: u32,
 ) -> Course
-    ensures { λ r. ⌜ coursePaper r ≡ courseRule k n a (lists (now (bytes .entry)) (atomSlots (now (starts .entry)) (now (ends .entry))) (pairSlots (now (firsts .entry)) (now (rests .entry)))) ⌝ }
+    ensures { λ r. ⌜ coursePaper r
+        ≡ courseRule k n a (listsIn (bytes .entry) (starts .entry) (ends .entry) (firsts .entry) (rests .entry)) ⌝ }
 {
     if sound::lists_sound(
         a,
@@ -160,7 +153,7 @@ pub fn course_of(
         rests.len(),
     ) {
         if usable(k, a, starts, ends, firsts, rests) {
-            if savings(k, a) < MIN_SAVINGS {
+            if record::savings(k, a) < MIN_SAVINGS {
                 return Course::Abort;
             }
             return node_course(k, a, starts, ends, firsts, rests, n);

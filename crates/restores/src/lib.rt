@@ -4,7 +4,6 @@ mod course;
 
 use course::Course;
 use creates::atom;
-use creates::ghosts;
 use rules::Allocator;
 use rules::Answer;
 use rules::Changed;
@@ -22,13 +21,14 @@ ghost use mathlib.Core.List.{List};
 ghost use Prim.Native.Nat.{ℕ};
 ghost use lib.ListN.{length};
 ghost use Rattle.rules.specs.Said.{saysOf};
-ghost use Rattle.rules.specs.State.{store, atomSlots, pairSlots};
+ghost use Rattle.rules.specs.State.{store};
+ghost use Rattle.rules.specs.Lent.{atomSlotsIn, storeIn, pairStoreIn, slotsIn};
 ghost use Rattle.rules.specs.Restores.{share as shareCourse, replace, restorePlain, restoreTransparent, restoreBy, clone, maybeRestore};
 ghost use Rattle.rules.specs.Paper.{answerPaper, maybePaper, changed, restored};
 ghost use Rattle.restores.specs.Course.{accepted};
 ghost use Rattle.restores.specs.Able.{Shareable, Copyable};
 
-// Cuts the used counts to the checkpoint; what was cut stays counted, as ghosts: 1, 11.
+// Cuts the used counts to the checkpoint; what was cut stays counted, as ghosts: 1 unsound, 11 not usable.
 pub fn restore_transparent_checkpoint(
     a: Allocator,
     starts: &[u32],
@@ -37,7 +37,7 @@ pub fn restore_transparent_checkpoint(
     rests: &[u32],
     k: Counts,
 ) -> Changed
-    ensures { λ r. ⌜ changed r ≡ restoreTransparent k a (atomSlots (now (starts .entry)) (now (ends .entry))) (pairSlots (now (firsts .entry)) (now (rests .entry))) ⌝ }
+    ensures { λ r. ⌜ changed r ≡ restoreTransparent k a (slotsIn (starts .entry) (ends .entry) (firsts .entry) (rests .entry)) ⌝ }
 {
     if sound::slots_sound(a, starts.len(), ends.len(), firsts.len(), rests.len()) {
         if course::usable(k, a, starts, ends, firsts, rests) {
@@ -46,12 +46,12 @@ pub fn restore_transparent_checkpoint(
                 state: record::cut(k, a),
             };
         }
-        return ghosts::refused(Code::NotUsable, a);
+        return state::refused(Code::NotUsable, a);
     }
-    ghosts::refused(Code::Unsound, a)
+    state::refused(Code::Unsound, a)
 }
 
-// Cuts the used counts to the checkpoint and sets its ghosts: all counters are as they were. It must give a sound record: 1, 11.
+// Cuts the used counts to the checkpoint and sets its ghosts: all counters are as they were. It must give a sound record: 1 unsound, 11 not usable.
 pub fn restore_checkpoint(
     a: Allocator,
     starts: &[u32],
@@ -60,7 +60,7 @@ pub fn restore_checkpoint(
     rests: &[u32],
     k: Checkpoint,
 ) -> Changed
-    ensures { λ r. ⌜ changed r ≡ restorePlain k a (atomSlots (now (starts .entry)) (now (ends .entry))) (pairSlots (now (firsts .entry)) (now (rests .entry))) ⌝ }
+    ensures { λ r. ⌜ changed r ≡ restorePlain k a (slotsIn (starts .entry) (ends .entry) (firsts .entry) (rests .entry)) ⌝ }
 {
     let used = k.used;
     if sound::slots_sound(a, starts.len(), ends.len(), firsts.len(), rests.len()) {
@@ -72,16 +72,17 @@ pub fn restore_checkpoint(
                     state: back,
                 };
             }
-            return ghosts::refused(Code::NotUsable, a);
+            return state::refused(Code::NotUsable, a);
         }
-        return ghosts::refused(Code::NotUsable, a);
+        return state::refused(Code::NotUsable, a);
     }
-    ghosts::refused(Code::Unsound, a)
+    state::refused(Code::Unsound, a)
 }
 
 // The clone's answer, or the record from before the restore.
 fn settle(a: Allocator, made: Made) -> Restored
-    ensures { λ r. ⌜ (maybePaper (r .answer) ≡ saysOf replace (answerPaper (made .answer))) × (r .state ≡ accepted (answerPaper (made .answer)) (made .state) a) ⌝ }
+    ensures { λ r. ⌜ (maybePaper (r .answer)
+        ≡ saysOf replace (answerPaper (made .answer))) × (r .state ≡ accepted (answerPaper (made .answer)) (made .state) a) ⌝ }
 {
     let answer = made.answer;
     match answer {
@@ -109,7 +110,8 @@ fn share(
     end: usize,
 ) -> Restored
     requires { ⌜ Shareable k a (length (now starts)) (length (now ends)) start end ⌝ }
-    ensures { λ r. ⌜ ((b : List ℕ) → restored r (store b (atomSlots (now (starts .exit)) (now (ends .exit)))) ≡ restoreBy k a (store b (atomSlots (now (starts .entry)) (now (ends .entry)))) (shareCourse start end)) ⌝ }
+    ensures { λ r. ⌜ ((b : List ℕ) → restored r (store b (atomSlotsIn (starts .exit) (ends .exit)))
+        ≡ restoreBy k a (store b (atomSlotsIn (starts .entry) (ends .entry))) (shareCourse start end)) ⌝ }
 {
     let at = k.atoms;
     starts[at] = start as u32;
@@ -131,8 +133,9 @@ fn copy_node(
     start: usize,
     end: usize,
 ) -> Restored
-    requires { ⌜ Copyable k a (store (now bytes) (atomSlots (now starts) (now ends))) start end ⌝ }
-    ensures { λ r. ⌜ restored r (store (now (bytes .exit)) (atomSlots (now (starts .exit)) (now (ends .exit)))) ≡ clone k start end a (store (now (bytes .entry)) (atomSlots (now (starts .entry)) (now (ends .entry)))) ⌝ }
+    requires { ⌜ Copyable k a (storeIn bytes starts ends) start end ⌝ }
+    ensures { λ r. ⌜ restored r (storeIn (bytes .exit) (starts .exit) (ends .exit))
+        ≡ clone k start end a (storeIn (bytes .entry) (starts .entry) (ends .entry)) ⌝ }
 {
     let len = end - start;
     let mut saved = [0u8; 48];
@@ -153,7 +156,8 @@ pub fn maybe_restore_with_node(
     k: Counts,
     n: u32,
 ) -> Restored
-    ensures { λ r. ⌜ restored r (store (now (bytes .exit)) (atomSlots (now (starts .exit)) (now (ends .exit)))) ≡ maybeRestore k n a (store (now (bytes .entry)) (atomSlots (now (starts .entry)) (now (ends .entry)))) (pairSlots (now (firsts .entry)) (now (rests .entry))) ⌝ }
+    ensures { λ r. ⌜ restored r (storeIn (bytes .exit) (starts .exit) (ends .exit))
+        ≡ maybeRestore k n a (storeIn (bytes .entry) (starts .entry) (ends .entry)) (pairStoreIn (firsts .entry) (rests .entry)) ⌝ }
 {
     let course = course::course_of(k, a, bytes, starts, ends, firsts, rests, n);
     match course {

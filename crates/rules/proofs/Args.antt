@@ -78,3 +78,17 @@ atom-at a t n (refuses code node) x f h = let z : _≡_ {A = ℕ} 0 1 = cc in ab
 
 pub atom-in : (a : Allocator) (t : AtomSlots) (n : ℕ) (x : Atom) → atomOf a t n ≡ says x → AtomIn a x
 atom-in a t n x h = atom-at a t n (arg a t n) x (arg-in a t n) h
+
+-- a range lies within so many bytes, and a value takes 26 bits
+abbrev pub Inside : ℕ → Said Atom → Type 0
+Inside bytes (says (range start end)) = (start ≤ end) × (end ≤ bytes)
+Inside bytes (says (value v)) = v < 67108864
+Inside bytes (refuses code node) = 0 ≤ 0
+
+inside-at : (a : Allocator) (bytes : ℕ) (r : Said Atom) → a .used .bytes ≤ bytes → ((x : Atom) → r ≡ says x → AtomIn a x) → Inside bytes r
+inside-at a bytes (says (range start end)) h f = let p = f (range start end) refl in (p .0, omega (arith, p .1))
+inside-at a bytes (says (value v)) h f = f (value v) refl
+inside-at a bytes (refuses code node) h f = omega arith
+
+pub inside : (a : Allocator) (t : AtomSlots) (n bytes : ℕ) → a .used .bytes ≤ bytes → Inside bytes (atomOf a t n)
+inside a t n bytes h = inside-at a bytes (atomOf a t n) h (atom-in a t n)

@@ -13,7 +13,8 @@ use Rattle.rules.specs.Integer.{countFrom, countOf}
 use Rattle.rules.specs.Said.{Said, says, refuses, need, Out}
 use Rattle.rules.specs.State.{Store, store, atomSlots, startAt, endAt, limitsSound}
 use Rattle.rules.specs.Reads.{argOf}
-use Rattle.rules.specs.Creates.{fresh, storeAtom, atomTests, newI64, substrTests, newSubstr, concatTests, scan, joined, newConcat}
+use Rattle.rules.specs.Creates.{storeAtom, atomTests, newI64, substrTests, newSubstr, concatTests, scan, joined, newConcat}
+use Rattle.rules.specs.Record.{fresh}
 
 -- fits_in_small_atom: no answer is no number
 abbrev pub fitting : List ℕ → List ℕ

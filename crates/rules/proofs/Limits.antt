@@ -3,6 +3,7 @@ use Prim.Native.Nat.{ℕ, _+_, _*_, _≤_}
 use mathlib.Core.Path.{_≡_}
 use mathlib.Core.Bool.{true}
 use borrow.Author.Tests.{le-leb, leb-true}
+use Rattle.rules.specs.declared.Counts.{Counts}
 use Rattle.rules.specs.declared.Allocator.{Allocator}
 use Rattle.rules.specs.State.{limitsSound}
 use Rattle.rules.proofs.Tests.{both}
@@ -13,6 +14,10 @@ pub record Limits (a : Allocator) : Type 0 where
   pub atoms : a .used .atoms + a .ghosts .atoms ≤ 62500000
   pub pairs : a .used .pairs + a .ghosts .pairs ≤ 62500000
   pub heap : a .used .bytes + a .ghosts .bytes ≤ a .limit + 3 * (a .used .atoms + a .ghosts .atoms)
+
+-- no count of k above that of used
+abbrev pub Below : Counts → Counts → Type 0
+Below k used = (k .atoms ≤ used .atoms) × (k .pairs ≤ used .pairs) × (k .bytes ≤ used .bytes)
 
 pub limits : (a : Allocator) → limitsSound a ≡ true → Limits a
 unfolding limitsSound

@@ -1,7 +1,8 @@
 -- Laws that turn a test's fact into the value of the test, and back. Assumes nothing.
-use Prim.Native.Nat.{ℕ, suc, min, _≤_, _<_}
+use Prim.Native.Nat.{ℕ, suc, _+_, min, _≤_, _<_}
 use mathlib.Core.Path.{_≡_, refl}
 use mathlib.Core.Bool.{Bool, true, false, cond, _&&_, and-false, and-true, false≢true}
+use native.Mathlib.Numerals.{add-one}
 use native.Mathlib.Omega.{arith}
 use borrow.Author.Tests.{lt-ltb, le-ltb, le-leb, lt-leb, eq-eqb, ne-eqb, leb-true, leb-false}
 use lib.Dec.{leb, ltb}
@@ -27,6 +28,10 @@ same-at f g false false p q = refl
 -- two tests that follow from each other are one
 pub same-leb : (a b c d : ℕ) → (a ≤ b → c ≤ d) → (c ≤ d → a ≤ b) → leb a b ≡ leb c d
 same-leb a b c d f g = same-at f g (leb a b) (leb c d) refl refl
+
+-- n + 1 entries fit exactly where there is an entry n
+pub next-fits : (n one other : ℕ) → (leb (n + 1) one && leb (n + 1) other) ≡ (ltb n one && ltb n other)
+next-fits n one other = rw add-one
 
 -- a capped sum passes a test below the cap exactly where the sum does
 pub capped : (s m : ℕ) → m < 18446744073709551615 → leb (min s 18446744073709551615) m ≡ leb s m

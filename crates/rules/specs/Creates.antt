@@ -12,18 +12,8 @@ use Rattle.rules.specs.Node.{pairNode, bytesNode, smallNode, nil, validN
 use Rattle.rules.specs.Small.{fits, lenFor, smallBytes}
 use Rattle.rules.specs.Integer.{intBytes}
 use Rattle.rules.specs.Said.{Said, says, refuses, need, Done, done, NoLists, noLists, Out, out, refused, settle}
-use Rattle.rules.specs.State.{AtomSlots, PairSlots, Store, store, startAt, endAt, atoms, pairs, heap, limitsSound, pairsSound, storeSound, counts, usedAtom, usedPair, ghostAtom, withGhosts, over, putSlot, putPair}
+use Rattle.rules.specs.State.{AtomSlots, Store, store, PairStore, pairStore, startAt, endAt, atoms, pairs, heap, limitsSound, pairsSoundAt, storeSound, counts, usedAtom, usedPair, ghostAtom, withGhosts, over, putSlot, putPair}
 use Rattle.rules.specs.Reads.{Atom, range, value, atomOf, atomLength, atomBytes}
-
--- ---- new_limited: ghosts 2, 0, 1, used 0; a limit above 4,294,967,295 is refused with 1 and the record for limit 0
-
-abbrev pub fresh : ℕ → Allocator
-fresh limit = record { used = counts 0 0 0; ghosts = counts 2 0 1; limit = limit }
-
-unfoldable pub newLimited : ℕ → Out Done NoLists
-newLimited limit =
-    settle (need (leb limit 4294967295) 1 nil (says done)) (fresh 0) noLists
-    (λ d. out done (fresh limit) noLists)
 
 -- ---- the limits: 2 if heap + length > limit, 3 if atoms = 62,500,000
 
@@ -33,15 +23,21 @@ heapHolds a len = leb (heap a + len) (a .limit)
 abbrev pub atomsLeft : Allocator → Bool
 atomsLeft a = ltb (atoms a) 62500000
 
--- 15: every other test passed, but the lent slices (or 4,294,967,295 bytes) cannot hold the result
+-- 15: every other test passed, but the lent slices (or 4,294,967,295 bytes) cannot hold the result; first by their lengths
+abbrev pub slotRoomAt : Allocator → ℕ → ℕ → Bool
+slotRoomAt a starts ends = ltb (a .used .atoms) starts && ltb (a .used .atoms) ends
+
+abbrev pub storeRoomAt : Allocator → ℕ → ℕ → ℕ → ℕ → Bool
+storeRoomAt a len bytes starts ends =
+    leb (a .used .bytes + len) 4294967295
+    && leb (a .used .bytes + len) bytes
+    && slotRoomAt a starts ends
+
 abbrev pub slotRoom : Allocator → AtomSlots → Bool
-slotRoom a t = ltb (a .used .atoms) (length (t .starts)) && ltb (a .used .atoms) (length (t .ends))
+slotRoom a t = slotRoomAt a (length (t .starts)) (length (t .ends))
 
 abbrev pub storeRoom : Allocator → ℕ → Store → Bool
-storeRoom a len s =
-    leb (a .used .bytes + len) 4294967295
-    && leb (a .used .bytes + len) (length (s .bytes))
-    && slotRoom a (s .atoms)
+storeRoom a len s = storeRoomAt a len (length (s .bytes)) (length (s .atoms .starts)) (length (s .atoms .ends))
 
 -- bytes and one slot: the store with v behind its used bytes, and the slot over v
 abbrev pub putAtom : Allocator → List ℕ → Store → Store
@@ -54,14 +50,13 @@ storeAtom a v s =
     settle (need (storeRoom a (length v) s) 15 nil (says done)) a s
     (λ d. out (bytesNode (a .used .atoms)) (usedAtom (length v) a) (putAtom a v s))
 
--- ---- new_atom: 1, 2, 3; a fitting value becomes small, otherwise bytes and one slot
+-- ---- new_atom: 1 unsound, 2 out of memory, 3 too many atoms; a fitting value becomes small, otherwise bytes and one slot
+
+abbrev pub limitTests : Allocator → ℕ → Said Done
+limitTests a len = need (heapHolds a len) 2 nil (need (atomsLeft a) 3 nil (says done))
 
 unfoldable pub atomTests : Allocator → ℕ → Store → Said Done
-atomTests a len s =
-    need (storeSound a s) 1 nil
-    (need (heapHolds a len) 2 nil
-    (need (atomsLeft a) 3 nil
-    (says done)))
+atomTests a len s = need (storeSound a s) 1 nil (limitTests a len)
 
 -- a small atom is a ghost, of so many ghost bytes
 abbrev pub smallOr : Option ℕ → ℕ → Allocator → List ℕ → Store → Out ℕ Store
@@ -74,15 +69,13 @@ atomPut fit a v s = smallOr fit (length v) a v s
 abbrev pub newAtom : Allocator → List ℕ → Store → Out ℕ Store
 newAtom a v s = settle (atomTests a (length v) s) a s (λ d. atomPut (fits v) a v s)
 
--- ---- new_small_number: 1, 13, 2, 3
+-- ---- new_small_number: 1 unsound, 13 too large, 2 out of memory, 3 too many atoms
 
 unfoldable pub smallTests : Allocator → ℕ → Said Done
 smallTests a v =
     need (limitsSound a) 1 nil
     (need (leb v 67108863) 13 nil
-    (need (heapHolds a (lenFor v)) 2 nil
-    (need (atomsLeft a) 3 nil
-    (says done))))
+    (limitTests a (lenFor v)))
 
 abbrev pub newSmallNumber : Allocator → ℕ → Out ℕ NoLists
 newSmallNumber a v =
@@ -96,21 +89,25 @@ newU64 a x s = newAtom a (intBytes (pos x)) s
 abbrev pub newI64 : Allocator → ℤ → Store → Out ℕ Store
 newI64 a z s = newAtom a (intBytes z) s
 
--- ---- new_pair: 1, 5 for first, then rest; 4 if pairs = 62,500,000; 15
+-- ---- new_pair: 1 unsound, 5 not valid for first, then rest; 4 too many pairs, if pairs = 62,500,000; 15 full
 
-unfoldable pub pairTests : Allocator → ℕ → ℕ → PairSlots → Said Done
-pairTests a first rest p =
-    need (pairsSound a p) 1 nil
+-- the tests beside pair slots of these lengths
+abbrev pub pairTestsAt : Allocator → ℕ → ℕ → ℕ → ℕ → Said Done
+pairTestsAt a first rest firsts rests =
+    need (pairsSoundAt a firsts rests) 1 nil
     (need (validNode (a .used .atoms) (a .used .pairs) first) 5 nil
     (need (validNode (a .used .atoms) (a .used .pairs) rest) 5 nil
     (need (ltb (pairs a) 62500000) 4 nil
-    (need (ltb (a .used .pairs) (length (p .firsts)) && ltb (a .used .pairs) (length (p .rests))) 15 nil
+    (need (ltb (a .used .pairs) firsts && ltb (a .used .pairs) rests) 15 nil
     (says done)))))
 
-abbrev pub newPair : Allocator → ℕ → ℕ → PairSlots → Out ℕ PairSlots
+unfoldable pub pairTests : Allocator → ℕ → ℕ → PairStore → Said Done
+pairTests a first rest p = pairTestsAt a first rest (length (p .pairs .firsts)) (length (p .pairs .rests))
+
+abbrev pub newPair : Allocator → ℕ → ℕ → PairStore → Out ℕ PairStore
 newPair a first rest p =
     settle (pairTests a first rest p) a p
-    (λ d. out (pairNode (a .used .pairs)) (usedPair a) (putPair (a .used .pairs) first rest p))
+    (λ d. out (pairNode (a .used .pairs)) (usedPair a) (pairStore (putPair (a .used .pairs) first rest (p .pairs))))
 
 -- ---- ghost calls: 4 or 3 if the room up to 62,500,000 is under the amount; removal 14
 
@@ -129,7 +126,8 @@ addGhostAtom a amount =
     settle (need (limitsSound a) 1 nil (need (leb (atoms a + amount) 62500000) 3 nil (says done))) a noLists
     (λ d. out done (withGhosts (a .ghosts .atoms + amount) (a .ghosts .pairs) a) noLists)
 
--- ---- new_substr: 1, 3, 5, 1, 6, then 7, 8, 9 with the node
+-- ---- new_substr: 1 unsound, 3 too many atoms, 5 not valid, 1 unsound slot, 6 a pair; then, with the node, 7 start and 8 end out of
+-- bounds, 9 start past end
 
 abbrev pub bounded : ℕ → ℕ → ℕ → Said Atom → Said Atom
 bounded n start end (says x) =
@@ -164,7 +162,7 @@ substrPut (value v) a start end s =
 abbrev pub newSubstr : Allocator → ℕ → ℕ → ℕ → Store → Out ℕ Store
 newSubstr a n start end s = settle (substrTests a n start end s) a s (λ x. substrPut x a start end s)
 
--- ---- new_concat: 1, 3, 2, then the nodes
+-- ---- new_concat: 1 unsound, 3 too many atoms, 2 out of memory, then the nodes
 
 unfoldable pub concatTests : Allocator → ℕ → Store → Said Done
 concatTests a size s =
@@ -173,12 +171,12 @@ concatTests a size s =
     (need (heapHolds a size) 2 nil
     (says done)))
 
--- one node: 5, 1, 6; length ≠ size gives 10 with nil
+-- one node: 5 not valid, 1 unsound slot, 6 a pair; length ≠ size gives 10 with nil
 abbrev pub oneTerm : ℕ → Said Atom → Said Done
 oneTerm size (says x) = need (eqb (atomLength x) size) 10 nil (says done)
 oneTerm size (refuses code node) = refuses code node
 
--- one of several terms, after which the running length goes on: 5, 1, 6;
+-- one of several terms, after which the running length goes on: 5 not valid, 1 unsound slot, 6 a pair;
 -- a Bytes term after which it is past size gives 10 with that node; a small term is added untested
 abbrev pub term : ℕ → ℕ → ℕ → Said Atom → (ℕ → Said Done) → Said Done
 term size n length (says (range start end)) go =

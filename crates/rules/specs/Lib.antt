@@ -4,6 +4,8 @@ pub mod Small
 pub mod Integer
 pub mod Said
 pub mod State
+pub mod Lent
+pub mod Record
 pub mod Reads
 pub mod Creates
 pub mod Restores
@@ -11,4 +13,5 @@ pub mod Tree
 pub mod Serial
 pub mod Load
 pub mod Save
+pub mod Whole
 pub mod Paper

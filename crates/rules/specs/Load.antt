@@ -7,8 +7,8 @@ use lib.ListN.{length}
 use lib.Seq.{slice}
 use Rattle.rules.specs.declared.Allocator.{Allocator}
 use Rattle.rules.specs.Node.{nil}
-use Rattle.rules.specs.Said.{Said, says, refuses, Out}
-use Rattle.rules.specs.State.{Lists, lists, Store, store, PairSlots, listsSound}
+use Rattle.rules.specs.Said.{Said, says, refuses, onward, orElse, Out}
+use Rattle.rules.specs.State.{Lists, Store, store, PairStore, pairStore, together, listsSound}
 use Rattle.rules.specs.Creates.{newAtom, newPair}
 use Rattle.rules.specs.Serial.{Token, broken, opening, string, token}
 
@@ -29,29 +29,25 @@ placed (says n) at next = next
 placed (refuses code node) at next = at
 
 -- what new_atom and new_pair leave for the item at a place, with the lists that they are not lent
-abbrev pub madeAtom : ℕ → ℕ → PairSlots → Out ℕ Store → Reading
+abbrev pub madeAtom : ℕ → ℕ → PairStore → Out ℕ Store → Reading
 madeAtom at next p o =
-    reading (o .said) (placed (o .said) at next) (o .rec) (lists (o .lent .bytes) (o .lent .atoms) p)
+    reading (o .said) (placed (o .said) at next) (o .rec) (together (o .lent) p)
 
-abbrev pub madePair : ℕ → ℕ → Store → Out ℕ PairSlots → Reading
+abbrev pub madePair : ℕ → ℕ → Store → Out ℕ PairStore → Reading
 madePair at next s o =
-    reading (o .said) (placed (o .said) at next) (o .rec) (lists (s .bytes) (s .atoms) (o .lent))
+    reading (o .said) (placed (o .said) at next) (o .rec) (together s (o .lent))
 
 abbrev pub readAtom : List ℕ → ℕ → ℕ → ℕ → Allocator → Lists → Reading
 readAtom f at from to a l =
-    madeAtom at to (l .pairs) (newAtom a (slice from to f) (store (l .bytes) (l .atoms)))
+    madeAtom at to (pairStore (l .pairs)) (newAtom a (slice from to f) (store (l .bytes) (l .atoms)))
 
 abbrev pub readPair : ℕ → ℕ → ℕ → ℕ → Allocator → Lists → Reading
 readPair at next first rest a l =
-    madePair at next (store (l .bytes) (l .atoms)) (newPair a first rest (l .pairs))
+    madePair at next (store (l .bytes) (l .atoms)) (newPair a first rest (pairStore (l .pairs)))
 
 -- on with the node, or stop at the first refusal
-abbrev pub onward : Said ℕ → Reading → (ℕ → ℕ → Allocator → Lists → Reading) → Reading
-onward (says n) r f = f n (r .at) (r .rec) (r .lists)
-onward (refuses code node) r f = r
-
 abbrev pub after : Reading → (ℕ → ℕ → Allocator → Lists → Reading) → Reading
-after r f = onward (r .said) r f
+after r f = onward (r .said) r (λ n. f n (r .at) (r .rec) (r .lists))
 
 -- first, rest, then the pair
 abbrev pub pairItem : (ℕ → Allocator → Lists → Reading) → ℕ → Allocator → Lists → Reading
@@ -73,15 +69,11 @@ item f (suc levels) at a l = itemAs (token f at) (item f levels) f at a l
 -- bytes after the root are bad encoding
 abbrev pub atEnd : ℕ → Reading → Reading
 atEnd len r =
-    onward (r .said) r λ n at a l. cond (eqb at len) r (reading (refuses 17 nil) at a l)
+    after r λ n at a l. cond (eqb at len) r (reading (refuses 17 nil) at a l)
 
 -- a refusal gives the record back as it was given; past its used lengths the lists hold what the accepted calls wrote
-abbrev pub backTo : Allocator → Said ℕ → Reading → Reading
-backTo a (says n) r = r
-backTo a (refuses code node) r = reading (refuses code node) (r .at) a (r .lists)
-
 abbrev pub orBack : Allocator → Reading → Reading
-orBack a r = backTo a (r .said) r
+orBack a r = orElse (r .said) r (reading (r .said) (r .at) a (r .lists))
 
 -- the levels of a file, the root being level 1
 abbrev pub levelsOf : ℕ

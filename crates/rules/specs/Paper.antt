@@ -38,8 +38,8 @@ use Rattle.rules.specs.declared.NodeStatus.{NodeStatus}
 use Rattle.rules.specs.declared.NodeStatus.the-variants as NodeStatus
 use Rattle.rules.specs.declared.Taken.{Taken}
 use Rattle.rules.specs.declared.Taken.the-variants as Taken
-use Rattle.rules.specs.declared.Marked.{Marked}
-use Rattle.rules.specs.declared.Marked.the-variants as Marked
+use Rattle.rules.specs.declared.TakenCounts.{TakenCounts}
+use Rattle.rules.specs.declared.TakenCounts.the-variants as TakenCounts
 use Rattle.rules.specs.declared.Answer.{Answer}
 use Rattle.rules.specs.declared.Answer.the-variants as Answer
 use Rattle.rules.specs.declared.MaybeRestore.{MaybeRestore}
@@ -99,7 +99,7 @@ argPaper (Arg.Bytes i start end) = says (bytesArg i start end)
 argPaper (Arg.Small v) = says (smallArg v)
 argPaper (Arg.Refused code node) = refuses (codeNumber code) node
 
--- an atom argument after 5, 1 and 6
+-- an atom argument after 5 not valid, 1 unsound slot and 6 a pair
 abbrev pub atomPaper : Atom → Said Reads.Atom
 atomPaper (Atom.Range start end) = says (range start end)
 atomPaper (Atom.Value v) = says (value v)
@@ -159,9 +159,9 @@ takenPaper (Taken.Plain k) = says k
 takenPaper (Taken.Refused code node) = refuses (codeNumber code) node
 
 -- transparent_checkpoint
-abbrev pub markedPaper : Marked → Said Counts
-markedPaper (Marked.Transparent k) = says k
-markedPaper (Marked.Refused code node) = refuses (codeNumber code) node
+abbrev pub takenCountsPaper : TakenCounts → Said Counts
+takenCountsPaper (TakenCounts.Transparent k) = says k
+takenCountsPaper (TakenCounts.Refused code node) = refuses (codeNumber code) node
 
 -- the node of a creating call
 abbrev pub answerPaper : Answer → Said ℕ

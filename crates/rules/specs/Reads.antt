@@ -12,7 +12,7 @@ use Rattle.rules.specs.declared.Checkpoint.{Checkpoint}
 use Rattle.rules.specs.Node.{Node, pairAt, bytesAt, small, bad, view, indexOf, nil}
 use Rattle.rules.specs.Small.{fits, lenFor, be, smallBytes}
 use Rattle.rules.specs.Said.{Said, says, refuses, need, saysOf}
-use Rattle.rules.specs.State.{AtomSlots, PairSlots, Store, startAt, endAt, firstAt, restAt, atoms, pairs, heap, limitsSound, atomsSound, pairsSound, slotsSound, storeSound, atomSlotSound, pairSlotSound}
+use Rattle.rules.specs.State.{AtomSlots, PairSlots, startAt, endAt, firstAt, restAt, atoms, pairs, heap, limitsSound, atomsSound, pairsSound, slotsSound, bytesSound, atomSlotSound, pairSlotSound}
 
 -- ---- NodePtr: 5 for a kind above 2
 
@@ -49,39 +49,7 @@ isAtom n = saysOf isAtomKind (objectType n)
 abbrev pub isPair : ℕ → Said Bool
 isPair n = saysOf isPairKind (objectType n)
 
--- ---- the six counts, and taking a checkpoint: 1 for an unsound record
-
-abbrev pub counted : (Allocator → ℕ) → Allocator → Said ℕ
-counted count a = need (limitsSound a) 1 nil (says (count a))
-
-abbrev pub atomCount : Allocator → Said ℕ
-atomCount = counted atoms
-
-abbrev pub allocatedAtomCount : Allocator → Said ℕ
-allocatedAtomCount = counted (λ a. a .used .atoms)
-
-abbrev pub pairCount : Allocator → Said ℕ
-pairCount = counted pairs
-
-abbrev pub allocatedPairCount : Allocator → Said ℕ
-allocatedPairCount = counted (λ a. a .used .pairs)
-
-abbrev pub heapSize : Allocator → Said ℕ
-heapSize = counted heap
-
-abbrev pub allocatedHeapSize : Allocator → Said ℕ
-allocatedHeapSize = counted (λ a. a .used .bytes)
-
-abbrev pub checkpointOf : Allocator → Checkpoint
-checkpointOf a = record { used = a .used; ghosts = a .ghosts }
-
-abbrev pub checkpoint : Allocator → Said Checkpoint
-checkpoint a = need (limitsSound a) 1 nil (says (checkpointOf a))
-
-abbrev pub transparentCheckpoint : Allocator → Said Counts
-transparentCheckpoint a = need (limitsSound a) 1 nil (says (a .used))
-
--- ---- a node argument: 5, then its atom slot for 1
+-- ---- a node argument: 5 not valid, then 1 unsound for its atom slot
 
 pub data Arg : Type 0 where
   pairArg : ℕ → Arg
@@ -123,7 +91,7 @@ abbrev pub atomBytes : List ℕ → Atom → List ℕ
 atomBytes bytes (range start end) = slice start end bytes
 atomBytes bytes (value v) = smallBytes v
 
--- ---- atom_len, atom: 5, 1, 6
+-- ---- atom_len, atom: 5 not valid, 1 unsound slot, 6 a pair
 
 unfoldable pub atomLen : Allocator → AtomSlots → ℕ → Said ℕ
 atomLen a t n = need (atomsSound a t) 1 nil (saysOf atomLength (atomOf a t n))
@@ -134,8 +102,8 @@ partOf scratch (says (range start end)) = says (range start end)
 partOf scratch (says (value v)) = need (eqb scratch 4) 15 nil (says (value v))
 partOf scratch (refuses code node) = refuses code node
 
-unfoldable pub atom : Allocator → Store → ℕ → ℕ → Said Atom
-atom a s n scratch = need (storeSound a s) 1 nil (partOf scratch (atomOf a (s .atoms) n))
+unfoldable pub atom : Allocator → List ℕ → AtomSlots → ℕ → ℕ → Said Atom
+atom a bytes t n scratch = need (bytesSound a bytes t) 1 nil (partOf scratch (atomOf a t n))
 
 -- the scratch then holds a small atom's value big-endian; else it is left as it was
 abbrev pub scratchAfter : Said Atom → List ℕ → List ℕ
@@ -149,17 +117,17 @@ partBytes bytes scratch (says (range start end)) = slice start end bytes
 partBytes bytes scratch (says (value v)) = drop (4 - lenFor v) scratch
 partBytes bytes scratch (refuses code node) = []
 
--- ---- small_number: 5, 1; a pair has none
+-- ---- small_number: 5 not valid, 1 unsound slot; a pair has none
 
 abbrev pub numberOf : List ℕ → Arg → Option ℕ
 numberOf bytes (pairArg i) = none
 numberOf bytes (bytesArg i start end) = fits (slice start end bytes)
 numberOf bytes (smallArg v) = some v
 
-unfoldable pub smallNumber : Allocator → Store → ℕ → Said (Option ℕ)
-smallNumber a s n = need (storeSound a s) 1 nil (saysOf (numberOf (s .bytes)) (arg a (s .atoms) n))
+unfoldable pub smallNumber : Allocator → List ℕ → AtomSlots → ℕ → Said (Option ℕ)
+smallNumber a bytes t n = need (bytesSound a bytes t) 1 nil (saysOf (numberOf bytes) (arg a t n))
 
--- ---- atom_eq: left 5, 1, right 5, 1, then 6 with the left if it is a pair, else the right
+-- ---- atom_eq: 5 not valid and 1 unsound slot of the left, then of the right; then 6 a pair, with the left if it is one, else the right
 
 unfoldable pub sameBytes : List ℕ → List ℕ → Bool
 sameBytes [] [] = true
@@ -178,12 +146,11 @@ eqArgs bytes left right (refuses code node) y = refuses code node
 eqArgs bytes left right (says x) (refuses code node) = refuses code node
 eqArgs bytes left right (says x) (says y) = eqAtoms bytes (atomArg left (says x)) (atomArg right (says y))
 
-unfoldable pub atomEq : Allocator → Store → ℕ → ℕ → Said Bool
-atomEq a s left right =
-    need (storeSound a s) 1 nil
-    (eqArgs (s .bytes) left right (arg a (s .atoms) left) (arg a (s .atoms) right))
+unfoldable pub atomEq : Allocator → List ℕ → AtomSlots → ℕ → ℕ → Said Bool
+atomEq a bytes t left right =
+    need (bytesSound a bytes t) 1 nil (eqArgs bytes left right (arg a t left) (arg a t right))
 
--- ---- node, sexp, next: 5, then 1 for the slot read
+-- ---- node, sexp, next: 5 not valid, then 1 unsound for the slot read
 
 pub data Visited : Type 0 where
   buffer : (start end : ℕ) → Visited

@@ -10,7 +10,7 @@ use Rattle.rules.specs.declared.Allocator.{Allocator}
 use Rattle.rules.specs.declared.Checkpoint.{Checkpoint}
 use Rattle.rules.specs.Node.{bytesNode, nil}
 use Rattle.rules.specs.Said.{Said, says, refuses, need, Done, done, NoLists, noLists, Out, out, refused, settle}
-use Rattle.rules.specs.State.{AtomSlots, PairSlots, Store, store, Lists, lists, heap, slotsSound, listsSound, atomSlotsSound, pairSlotsSound, usedAtom, cut, cutPlain, lessGhosts, putSlot}
+use Rattle.rules.specs.State.{AtomSlots, PairSlots, Store, store, PairStore, together, Slots, Lists, heap, restoreSound, listsSound, atomSlotsSound, pairSlotsSound, usedAtom, cut, cutPlain, lessGhosts, putSlot}
 use Rattle.rules.specs.Reads.{Arg, pairArg, bytesArg, smallArg, arg, Status, before, afterNewBytes, afterOldBytes, statusOf}
 use Rattle.rules.specs.Creates.{newAtom}
 
@@ -21,19 +21,19 @@ usable k a t p =
     leb (k .bytes) (a .used .bytes) && leb (k .atoms) (a .used .atoms) && leb (k .pairs) (a .used .pairs)
     && atomSlotsSound k t && pairSlotsSound k p
 
--- a transparent restore cuts lengths, adding what was cut to the ghosts: 1, 11
-unfoldable pub restoreTransparent : Counts → Allocator → AtomSlots → PairSlots → Out Done NoLists
-restoreTransparent k a t p =
-    settle (need (slotsSound a t p) 1 nil (need (usable k a t p) 11 nil (says done))) a noLists
+-- a transparent restore cuts lengths, adding what was cut to the ghosts: 1 unsound, 11 not usable
+unfoldable pub restoreTransparent : Counts → Allocator → Slots → Out Done NoLists
+restoreTransparent k a s =
+    settle (need (restoreSound a s) 1 nil (need (usable k a (s .atoms) (s .pairs)) 11 nil (says done))) a noLists
     (λ d. out done (cut k a) noLists)
 
 -- a plain restore cuts, then sets the ghosts; it must also give a sound record
-unfoldable pub restorePlain : Checkpoint → Allocator → AtomSlots → PairSlots → Out Done NoLists
-restorePlain k a t p =
+unfoldable pub restorePlain : Checkpoint → Allocator → Slots → Out Done NoLists
+restorePlain k a s =
     settle
-    (need (slotsSound a t p) 1 nil
-    (need (usable (k .used) a t p) 11 nil
-    (need (slotsSound (cutPlain k a) t p) 11 nil
+    (need (restoreSound a s) 1 nil
+    (need (usable (k .used) a (s .atoms) (s .pairs)) 11 nil
+    (need (restoreSound (cutPlain k a) s) 11 nil
     (says done))))
     a noLists
     (λ d. out done (cutPlain k a) noLists)
@@ -71,7 +71,7 @@ abbrev pub nodeCourse : Counts → Allocator → Said Arg → Said Course
 nodeCourse k a (says x) = statusCourse k a x (statusOf k x)
 nodeCourse k a (refuses code node) = refuses code node
 
--- 1, 11; savings below 1024 is Aborted, with no look at the node; then 5, 1, status
+-- 1 unsound, 11 not usable; savings below 1024 is Aborted, with no look at the node; then 5 not valid, 1 unsound slot, status
 unfoldable pub course : Counts → ℕ → Allocator → Lists → Said Course
 course k n a l =
     need (listsSound a l) 1 nil
@@ -101,5 +101,5 @@ restoreBy k a s (share start end) =
     (store (s .bytes) (putSlot (k .atoms) start end (s .atoms)))
 restoreBy k a s (copy start end) = clone k start end a s
 
-abbrev pub maybeRestore : Counts → ℕ → Allocator → Store → PairSlots → Out Restoring Store
-maybeRestore k n a s p = settle (course k n a (lists (s .bytes) (s .atoms) p)) a s (restoreBy k a s)
+abbrev pub maybeRestore : Counts → ℕ → Allocator → Store → PairStore → Out Restoring Store
+maybeRestore k n a s p = settle (course k n a (together s p)) a s (restoreBy k a s)

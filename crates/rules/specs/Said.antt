@@ -23,6 +23,16 @@ abbrev pub saysOf : {A B : Type 0} → (A → B) → Said A → Said B
 saysOf f (says x) = says (f x)
 saysOf f (refuses code node) = refuses code node
 
+-- on with what was said; a refusal leaves r
+abbrev pub onward : {A R : Type 0} → Said A → R → (A → R) → R
+onward (says x) r f = f x
+onward (refuses code node) r f = r
+
+-- what was accepted leaves r; a refusal leaves the other
+abbrev pub orElse : {A R : Type 0} → Said A → R → R → R
+orElse (says x) r other = r
+orElse (refuses code node) r other = other
+
 -- the answer of a call that has nothing to hand back
 pub data Done : Type 0 where
   done : Done

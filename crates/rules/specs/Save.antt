@@ -7,7 +7,7 @@ use lib.Seq.{slice}
 use Rattle.rules.specs.declared.Allocator.{Allocator}
 use Rattle.rules.specs.Node.{nil}
 use Rattle.rules.specs.Small.{smallBytes}
-use Rattle.rules.specs.Said.{Said, says, refuses, need}
+use Rattle.rules.specs.Said.{Said, says, refuses, need, onward}
 use Rattle.rules.specs.State.{Lists, listsSound, over}
 use Rattle.rules.specs.Reads.{Visited, buffer, number, children, arg, visited}
 use Rattle.rules.specs.Serial.{shortestAtom}
@@ -15,8 +15,7 @@ use Rattle.rules.specs.Load.{levelsOf}
 
 -- what is written so far, then more
 abbrev pub next : Said (List ℕ) → (List ℕ → Said (List ℕ)) → Said (List ℕ)
-next (says u) f = f u
-next (refuses code node) f = refuses code node
+next s f = onward s s f
 
 -- 19 at the first byte that does not fit the room left
 abbrev pub fitted : ℕ → List ℕ → Said (List ℕ)
@@ -36,7 +35,8 @@ formAs (says (number v)) below room bytes = fitted room (shortestAtom (smallByte
 formAs (says (children first rest)) below room bytes = formPair below room first rest
 formAs (refuses code node) below room bytes = refuses code node
 
--- a node's bytes, with so many levels and so much room left: 18 on entering one level too many, then 5, then 1 for the slot read
+-- a node's bytes, with so many levels and so much room left: 18 on entering one level too many, then 5 not valid, then 1
+-- unsound for the slot read
 unfoldable pub formOf : Allocator → Lists → ℕ → ℕ → ℕ → Said (List ℕ)
 formOf a l zero room n = refuses 18 nil
 formOf a l (suc levels) room n =

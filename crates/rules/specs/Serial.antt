@@ -9,19 +9,19 @@ use lib.Seq.{slice}
 use Rattle.rules.specs.Small.{big, be}
 use Rattle.rules.specs.Tree.{Tree, leaf, fork}
 
--- ---- the table: a prefix of k + 1 bytes, k from 0 to 4, starts at markOf k and is for lengths below limitOf k
+-- ---- the table: a prefix of k + 1 bytes, k from 0 to 4, starts at baseOf k and is for lengths below limitOf k
 
 -- 80, c0, e0, f0, f8; from the next, fc, on no prefix starts
-unfoldable pub markOf : ℕ → ℕ
-markOf k = 256 - 2 ^ (7 - k)
+unfoldable pub baseOf : ℕ → ℕ
+baseOf k = 256 - 2 ^ (7 - k)
 
 -- 2^6, 2^13, 2^20, 2^27, 2^34
 unfoldable pub limitOf : ℕ → ℕ
 limitOf k = 2 ^ (7 * k + 6)
 
--- the length in k + 1 bytes, big-endian, with the mark added to the first
+-- the length in k + 1 bytes, big-endian, with the base added to the first
 abbrev pub prefix : ℕ → ℕ → List ℕ
-prefix k len = (markOf k + len / 256 ^ k) ∷ be k len
+prefix k len = (baseOf k + len / 256 ^ k) ∷ be k len
 
 -- ---- the forms of a tree
 
@@ -71,11 +71,11 @@ pub data Token : Type 0 where
 
 -- how many bytes a prefix that starts with b has after it
 abbrev pub extra : ℕ → ℕ
-extra b = firstBelow (λ k. markOf (suc k)) 4 0 b
+extra b = firstBelow (λ k. baseOf (suc k)) 4 0 b
 
 -- the length in a prefix of k + 1 bytes
 abbrev pub lengthIn : List ℕ → ℕ → ℕ → ℕ
-lengthIn f at k = big ((getD f at 0 - markOf k) ∷ slice (at + 1) (at + 1 + k) f)
+lengthIn f at k = big ((getD f at 0 - baseOf k) ∷ slice (at + 1) (at + 1 + k) f)
 
 abbrev pub stringFrom : List ℕ → ℕ → ℕ → Token
 stringFrom f from len = cond (leb (from + len) (length f)) (string from (from + len)) broken

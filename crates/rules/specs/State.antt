@@ -9,7 +9,7 @@ use Rattle.rules.specs.declared.Allocator.{Allocator}
 use Rattle.rules.specs.declared.Checkpoint.{Checkpoint}
 use Rattle.rules.specs.Node.{validNode}
 
--- ---- the lent lists
+-- ---- the lent lists: what reads see of them
 
 -- the atom slots: where each atom's bytes start and end
 pub record AtomSlots : Type 0 where
@@ -27,14 +27,6 @@ pub record PairSlots : Type 0 where
 abbrev pub pairSlots : List ℕ → List ℕ → PairSlots
 pairSlots firsts rests = record { firsts = firsts; rests = rests }
 
--- bytes and atom slots: what the calls that read or write bytes are lent
-pub record Store : Type 0 where
-  pub bytes : List ℕ
-  pub atoms : AtomSlots
-
-abbrev pub store : List ℕ → AtomSlots → Store
-store bytes atoms = record { bytes = bytes; atoms = atoms }
-
 -- all five lists
 pub record Lists : Type 0 where
   pub bytes : List ℕ
@@ -43,6 +35,38 @@ pub record Lists : Type 0 where
 
 abbrev pub lists : List ℕ → AtomSlots → PairSlots → Lists
 lists bytes atoms pairs = record { bytes = bytes; atoms = atoms; pairs = pairs }
+
+-- ---- the same as views of the calls that create and restore: a list that only they keep (document 02, W3 and W13) joins a
+-- view, and no read moves
+
+-- bytes and atom slots
+pub record Store : Type 0 where
+  pub bytes : List ℕ
+  pub atoms : AtomSlots
+
+abbrev pub store : List ℕ → AtomSlots → Store
+store bytes atoms = record { bytes = bytes; atoms = atoms }
+
+-- pair slots
+pub record PairStore : Type 0 where
+  pub pairs : PairSlots
+
+abbrev pub pairStore : PairSlots → PairStore
+pairStore pairs = record { pairs = pairs }
+
+-- the two side by side are all five lists
+abbrev pub together : Store → PairStore → Lists
+together s p = lists (s .bytes) (s .atoms) (p .pairs)
+
+-- atom slots and pair slots, for a restore that neither reads nor writes a byte
+pub record Slots : Type 0 where
+  pub atoms : AtomSlots
+  pub pairs : PairSlots
+
+abbrev pub slots : AtomSlots → PairSlots → Slots
+slots atoms pairs = record { atoms = atoms; pairs = pairs }
+
+-- ---- single entries
 
 abbrev pub startAt : AtomSlots → ℕ → ℕ
 startAt t i = getD (t .starts) i 0
@@ -88,21 +112,44 @@ atomsFit a starts ends = leb (a .used .atoms) starts && leb (a .used .atoms) end
 abbrev pub pairsFit : Allocator → ℕ → ℕ → Bool
 pairsFit a firsts rests = leb (a .used .pairs) firsts && leb (a .used .pairs) rests
 
--- the record is sound beside what a call is lent: atom slots, pair slots, both, bytes and atom slots, or all
+-- the record is sound beside slices of these lengths: atom slots, pair slots, both, bytes and atom slots, or all
+abbrev pub atomsSoundAt : Allocator → ℕ → ℕ → Bool
+atomsSoundAt a starts ends = limitsSound a && atomsFit a starts ends
+
+abbrev pub pairsSoundAt : Allocator → ℕ → ℕ → Bool
+pairsSoundAt a firsts rests = limitsSound a && pairsFit a firsts rests
+
+abbrev pub slotsSoundAt : Allocator → ℕ → ℕ → ℕ → ℕ → Bool
+slotsSoundAt a starts ends firsts rests = atomsSoundAt a starts ends && pairsFit a firsts rests
+
+abbrev pub bytesSoundAt : Allocator → ℕ → ℕ → ℕ → Bool
+bytesSoundAt a bytes starts ends = atomsSoundAt a starts ends && bytesFit a bytes
+
+abbrev pub listsSoundAt : Allocator → ℕ → ℕ → ℕ → ℕ → ℕ → Bool
+listsSoundAt a bytes starts ends firsts rests = slotsSoundAt a starts ends firsts rests && bytesFit a bytes
+
+-- and so beside what a read is lent
 abbrev pub atomsSound : Allocator → AtomSlots → Bool
-atomsSound a t = limitsSound a && atomsFit a (length (t .starts)) (length (t .ends))
+atomsSound a t = atomsSoundAt a (length (t .starts)) (length (t .ends))
 
 abbrev pub pairsSound : Allocator → PairSlots → Bool
-pairsSound a p = limitsSound a && pairsFit a (length (p .firsts)) (length (p .rests))
+pairsSound a p = pairsSoundAt a (length (p .firsts)) (length (p .rests))
 
 abbrev pub slotsSound : Allocator → AtomSlots → PairSlots → Bool
-slotsSound a t p = atomsSound a t && pairsFit a (length (p .firsts)) (length (p .rests))
+slotsSound a t p = slotsSoundAt a (length (t .starts)) (length (t .ends)) (length (p .firsts)) (length (p .rests))
 
-abbrev pub storeSound : Allocator → Store → Bool
-storeSound a s = atomsSound a (s .atoms) && bytesFit a (length (s .bytes))
+abbrev pub bytesSound : Allocator → List ℕ → AtomSlots → Bool
+bytesSound a bytes t = bytesSoundAt a (length bytes) (length (t .starts)) (length (t .ends))
 
 abbrev pub listsSound : Allocator → Lists → Bool
 listsSound a l = slotsSound a (l .atoms) (l .pairs) && bytesFit a (length (l .bytes))
+
+-- and beside the view of a call that creates or restores
+abbrev pub storeSound : Allocator → Store → Bool
+storeSound a s = bytesSound a (s .bytes) (s .atoms)
+
+abbrev pub restoreSound : Allocator → Slots → Bool
+restoreSound a s = slotsSound a (s .atoms) (s .pairs)
 
 -- ---- sound slots
 

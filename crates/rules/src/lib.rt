@@ -140,7 +140,7 @@ pub enum Taken {
     Refused(Code, u32),
 }
 
-pub enum Marked {
+pub enum TakenCounts {
     Transparent(Counts),
     Refused(Code, u32),
 }

@@ -9,7 +9,7 @@ use Rattle.rules.specs.Node.{view}
 use Rattle.rules.specs.Small.{fits, lenFor}
 use Rattle.rules.specs.Said.{Said, says, refuses}
 use Rattle.rules.specs.State.{atoms, pairs}
-use Rattle.runs.specs.State.{St, newAtom, newSmallNumber, newPair, newSubstr, newConcat, addGhostPair, removeGhostPair, addGhostAtom}
+use Rattle.rules.specs.Whole.{St, newAtom, newSmallNumber, newPair, newSubstr, newConcat, addGhostPair, removeGhostPair, addGhostAtom}
 use Rattle.runs.specs.Wf.{ValidIn, WF}
 use Rattle.runs.specs.Makes.{paired, fitted, parted, joinedAs, shown, shownAll, Within, AtomIn, AllAtoms, PartGiven, JoinGiven}
 use Rattle.runs.specs.Causes as W

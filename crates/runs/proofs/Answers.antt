@@ -9,12 +9,12 @@ use Rattle.rules.specs.declared.Counts.{Counts}
 use Rattle.rules.specs.Node.{Node, pairAt, bytesAt, small, bad, view, nil}
 use Rattle.rules.specs.Small.{fits, smallBytes}
 use Rattle.rules.specs.Said.{Said, says, refuses, need, saysOf}
-use Rattle.rules.specs.State.{storeSound}
+use Rattle.rules.specs.State.{bytesSound}
 use Rattle.rules.specs.Reads as R
 use Rattle.rules.specs.Reads.{Arg, pairArg, bytesArg, smallArg, argOf, arg, value, atomArg, atomLength, atomLen, children, branch, partOf, partBytes, numberOf, smallNumber, sameBytes, eqAtoms, eqArgs, atomEq, childrenOf, visited, sexpOf, sexp, nodeStatusOf, nodeStatus}
 use Rattle.rules.proofs.Needs.{need-ind}
 use Rattle.rules.proofs.Args.{ArgIn, arg-in}
-use Rattle.runs.specs.State.{St, storeOf}
+use Rattle.rules.specs.Whole.{St}
 use Rattle.runs.specs.Wf.{Valid, ValidIn, WF, Ext, On}
 use Rattle.runs.specs.ByCalls.{SameAnswers}
 use Rattle.runs.proofs.Tests.{→atoms, →pairs, →slots, →store, →slot, →pair}
@@ -133,21 +133,21 @@ module _ {k s : St} (w : WF k) (o : On k s) where
     unfolding atomLen need
     len-same = rw (→atoms (o .wf .sound), →atoms (w .sound)) (ap (λ r. saysOf atomLength (atomArg n r)) (arg-same n v))
 
-    number-same : smallNumber (s .rec) (storeOf s) n ≡ smallNumber (k .rec) (storeOf k) n
+    number-same : smallNumber (s .rec) (s .lists .bytes) (s .lists .atoms) n ≡ smallNumber (k .rec) (k .lists .bytes) (k .lists .atoms) n
     unfolding smallNumber need
     number-same = rw (→store (o .wf .sound), →store (w .sound)) (ap (saysOf (numberOf (s .lists .bytes))) (arg-same n v) ∙ number-at (arg (k .rec) (k .lists .atoms) n) args)
 
-    atom-same : (size : ℕ) → R.atom (s .rec) (storeOf s) n size ≡ R.atom (k .rec) (storeOf k) n size
+    atom-same : (size : ℕ) → R.atom (s .rec) (s .lists .bytes) (s .lists .atoms) n size ≡ R.atom (k .rec) (k .lists .bytes) (k .lists .atoms) n size
     unfolding R.atom need
     atom-same size = rw (→store (o .wf .sound), →store (w .sound)) (ap (λ r. partOf size (atomArg n r)) (arg-same n v))
 
     bytes-same : (scratch : List ℕ) (size : ℕ)
-        → partBytes (s .lists .bytes) scratch (R.atom (k .rec) (storeOf k) n size) ≡ partBytes (k .lists .bytes) scratch (R.atom (k .rec) (storeOf k) n size)
+        → partBytes (s .lists .bytes) scratch (R.atom (k .rec) (k .lists .bytes) (k .lists .atoms) n size) ≡ partBytes (k .lists .bytes) scratch (R.atom (k .rec) (k .lists .bytes) (k .lists .atoms) n size)
     unfolding R.atom
-    bytes-same scratch size = need-ind (λ r. partBytes (s .lists .bytes) scratch r ≡ partBytes (k .lists .bytes) scratch r) (storeSound (k .rec) (storeOf k)) 1 nil _
+    bytes-same scratch size = need-ind (λ r. partBytes (s .lists .bytes) scratch r ≡ partBytes (k .lists .bytes) scratch r) (bytesSound (k .rec) (k .lists .bytes) (k .lists .atoms)) 1 nil _
         (λ t. refl) (λ t. part-at n scratch size (arg (k .rec) (k .lists .atoms) n) args)
 
-    eq-same : (m : ℕ) → ValidIn k m → atomEq (s .rec) (storeOf s) n m ≡ atomEq (k .rec) (storeOf k) n m
+    eq-same : (m : ℕ) → ValidIn k m → atomEq (s .rec) (s .lists .bytes) (s .lists .atoms) n m ≡ atomEq (k .rec) (k .lists .bytes) (k .lists .atoms) n m
     unfolding atomEq need
     eq-same m u = rw (→store (o .wf .sound), →store (w .sound))
         (ap₂ (eqArgs (s .lists .bytes) n m) (arg-same n v) (arg-same m u)

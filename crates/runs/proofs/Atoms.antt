@@ -18,7 +18,7 @@ use Rattle.rules.specs.Tree.{leaf, tree}
 use Rattle.rules.proofs.Needs.{need-ind}
 use Rattle.rules.proofs.Smalls.{length-be, be-octets}
 use Rattle.rules.proofs.Trees.{tree-bytes, tree-small}
-use Rattle.runs.specs.State.{St}
+use Rattle.rules.specs.Whole.{St}
 use Rattle.runs.specs.Wf.{Valid, ValidIn, SlotOk, WF}
 use Rattle.runs.specs.Makes.{shown, AtomIn}
 use Rattle.runs.proofs.Tests.{slot→}

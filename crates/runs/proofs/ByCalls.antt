@@ -16,7 +16,7 @@ use Rattle.rules.specs.Tree.{Tree, leaf, fork, tree}
 use Rattle.rules.proofs.Needs.{passed}
 use Rattle.rules.proofs.Smalls.{be-low, small-length}
 use Rattle.rules.proofs.Trees.{tree-bytes, tree-small}
-use Rattle.runs.specs.State.{St}
+use Rattle.rules.specs.Whole.{St}
 use Rattle.runs.specs.Wf.{Valid, ValidIn, WF, On}
 use Rattle.runs.specs.ByCalls.{ReadsAs, atom-reads, pair-reads}
 use Rattle.runs.proofs.Tests.{valid-mono, →pairs, →store, →slot, →pair}

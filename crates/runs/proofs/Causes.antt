@@ -20,7 +20,7 @@ use Rattle.rules.specs.Reads.{Atom, atomLength}
 use Rattle.rules.specs.Creates as C
 use Rattle.rules.specs.Creates.{slotRoom, storeRoom, storeAtom, atomTests, atomPut, smallTests, pairTests, bounded, substrTests, shareRange, partPut, substrPut, concatTests, oneTerm, term, scan, joined, concatPut}
 use Rattle.rules.proofs.Needs.{need-ind}
-use Rattle.runs.specs.State.{St, storeOf, newAtom, newSmallNumber, newPair, newSubstr, newConcat, addGhostPair, removeGhostPair, addGhostAtom, Making, atom, small-number, u64, i64, pair, substr, concat, ghost-pairs, fewer-ghost-pairs, ghost-atoms, call}
+use Rattle.rules.specs.Whole.{St, storeOf, newAtom, newSmallNumber, newPair, newSubstr, newConcat, addGhostPair, removeGhostPair, addGhostAtom, Making, atom, small-number, u64, i64, pair, substr, concat, ghost-pairs, fewer-ghost-pairs, ghost-atoms, call}
 use Rattle.runs.specs.Wf.{WF}
 use Rattle.runs.specs.Makes.{stored, shared, paired, fitted, parted, Within, PartGiven}
 use Rattle.runs.specs.Causes as W

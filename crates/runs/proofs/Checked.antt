@@ -11,9 +11,9 @@ use Rattle.rules.specs.Node.{nil}
 use Rattle.rules.specs.Small.{Octets}
 use Rattle.rules.specs.Said.{says, done, noLists, out, settle}
 use Rattle.rules.specs.State.{Lists, atoms, pairs, heap, wellFormed}
-use Rattle.rules.specs.Creates.{fresh, newLimited}
+use Rattle.rules.specs.Record.{fresh, newLimited}
 use Rattle.rules.proofs.Needs.{need-ind}
-use Rattle.runs.specs.State.{St, Whole, Making, make, plainTo, transparentTo, maybeTo}
+use Rattle.rules.specs.Whole.{St, Whole, Making, make, plainTo, transparentTo, maybeTo}
 use Rattle.runs.specs.Wf.{Sound, Shape, WF}
 use Rattle.runs.specs.Makes.{Outcome, refused, accepted}
 use Rattle.runs.proofs.Tests.{well-formed}

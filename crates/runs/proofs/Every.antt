@@ -3,7 +3,7 @@ use Prim.Native.Nat.{ℕ, _+_, _*_, _≤_}
 use mathlib.Core.Path.{_≡_}
 use Rattle.rules.specs.State.{atoms, heap}
 use Rattle.rules.specs.Tree.{tree}
-use Rattle.runs.specs.State.{St, Whole, Making, atom, small-number, u64, i64, pair, substr, concat, ghost-pairs, fewer-ghost-pairs, ghost-atoms, make}
+use Rattle.rules.specs.Whole.{St, Whole, Making, atom, small-number, u64, i64, pair, substr, concat, ghost-pairs, fewer-ghost-pairs, ghost-atoms, make}
 use Rattle.runs.specs.Wf.{ValidIn, WF, On}
 use Rattle.runs.specs.Makes.{Outcome, refused, accepted}
 use Rattle.rules.specs.Node.{view}

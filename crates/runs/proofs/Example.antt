@@ -9,9 +9,10 @@ use Rattle.rules.specs.Small.{Octets, fits, unfit, big}
 use Rattle.rules.specs.Said.{Said, says, need}
 use Rattle.rules.specs.State.{Lists, lists, atomSlots, pairSlots, limitsSound, all}
 use Rattle.rules.specs.Reads.{argOf}
-use Rattle.rules.specs.Creates.{newLimited, storeAtom, atomTests}
+use Rattle.rules.specs.Creates.{storeAtom, atomTests}
+use Rattle.rules.specs.Record.{newLimited}
 use Rattle.rules.specs.Restores.{usable, course, restorePlain, restoreTransparent, Restoring, noReplace, replace}
-use Rattle.runs.specs.State.{St, atom, make, plainly, transparently, withNode, restore}
+use Rattle.rules.specs.Whole.{St, atom, make, plainly, transparently, withNode, restore}
 use Rattle.runs.specs.Runs.{took, went, LiveAt, just-taken, past-take, past-restore, noted, Past, fresh, made, taken, back}
 
 octets : (b : ℕ) → b < 256 → (n : ℕ) → Octets (replicate n b)

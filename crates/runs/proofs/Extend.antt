@@ -9,7 +9,7 @@ use lib.ListN.{getD, take, set, length-set}
 use lib.Seq.{slice, take-take, getD-take, take-set-le}
 use Rattle.rules.specs.State.{AtomSlots, PairSlots, Lists, startAt, endAt, firstAt, restAt, putSlot, putPair}
 use Rattle.rules.proofs.Overs.{slice-same}
-use Rattle.runs.specs.State.{St}
+use Rattle.rules.specs.Whole.{St}
 use Rattle.runs.specs.Wf.{Agree, SameAtoms, SamePairs, Same, RoomAtoms, RoomPairs, Room, From, past, part, Ext}
 
 -- two lists that agree on n entries agree on fewer, at each of them, and after a store past them

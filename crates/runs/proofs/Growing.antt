@@ -10,7 +10,7 @@ use Rattle.rules.specs.declared.Counts.{Counts}
 use Rattle.rules.specs.Node.{view}
 use Rattle.rules.specs.Small.{Octets}
 use Rattle.rules.specs.State.{Lists, lists, firstAt, restAt, moved, usedAtom, usedPair, putSlot, putPair}
-use Rattle.runs.specs.State.{St}
+use Rattle.rules.specs.Whole.{St}
 use Rattle.runs.specs.Wf.{ValidIn, Sound, SlotOk, PairOk, Shape, WF, Agree, Same, Room, From, Ext, On}
 use Rattle.runs.proofs.Tests.{Slots, valid-mono}
 use Rattle.runs.proofs.Lists.{set₂-ind}

@@ -4,9 +4,9 @@ use mathlib.Core.Path.{_≡_, subst}
 use mathlib.Core.Bool.{Bool, true}
 use native.Mathlib.Omega.{arith}
 use Rattle.rules.specs.Said.{Said, says, need, NoLists, noLists, Out, refused, settle}
-use Rattle.rules.specs.State.{Store, PairSlots}
+use Rattle.rules.specs.State.{Store, PairStore}
 use Rattle.rules.proofs.Needs.{need-ind}
-use Rattle.runs.specs.State.{St, Whole, storeOf, alone, onPairs, onStore}
+use Rattle.rules.specs.Whole.{St, Whole, storeOf, pairsOf, alone, onPairs, onStore}
 use Rattle.runs.specs.Makes as M
 use Rattle.runs.specs.Makes.{Outcome, Under}
 
@@ -15,9 +15,9 @@ module _ {A B : Type 0} {s : St} {P : B → St → Type 0} (b : Bool) (code node
       → Outcome s P (onStore s (settle (need b code node next) (s .rec) (storeOf s) f))
   guard f g = need-ind (λ r. Outcome s P (onStore s (settle r (s .rec) (storeOf s) f))) b code node next (λ t. M.refused code node) g
 
-  pub guard-pairs : (f : A → Out B PairSlots) → (b ≡ true → Outcome s P (onPairs s (settle next (s .rec) (s .lists .pairs) f)))
-      → Outcome s P (onPairs s (settle (need b code node next) (s .rec) (s .lists .pairs) f))
-  guard-pairs f g = need-ind (λ r. Outcome s P (onPairs s (settle r (s .rec) (s .lists .pairs) f))) b code node next (λ t. M.refused code node) g
+  pub guard-pairs : (f : A → Out B PairStore) → (b ≡ true → Outcome s P (onPairs s (settle next (s .rec) (pairsOf s) f)))
+      → Outcome s P (onPairs s (settle (need b code node next) (s .rec) (pairsOf s) f))
+  guard-pairs f g = need-ind (λ r. Outcome s P (onPairs s (settle r (s .rec) (pairsOf s) f))) b code node next (λ t. M.refused code node) g
 
   pub guard-alone : (f : A → Out B NoLists) → (b ≡ true → Outcome s P (alone s (settle next (s .rec) noLists f)))
       → Outcome s P (alone s (settle (need b code node next) (s .rec) noLists f))

@@ -13,7 +13,7 @@ use Rattle.rules.specs.State.{atoms, heap, ghostAtom}
 use Rattle.rules.specs.Reads.{Atom, atomLength, atomBytes}
 use Rattle.rules.specs.Creates.{concatTests, oneTerm, term, scan, termBytes, joined, storeAtom, concatPut}
 use Rattle.rules.proofs.Needs.{passed, settle-ind}
-use Rattle.runs.specs.State.{St, storeOf, onStore, newConcat}
+use Rattle.rules.specs.Whole.{St, storeOf, onStore, newConcat}
 use Rattle.runs.specs.Wf.{WF}
 use Rattle.runs.specs.Makes as M
 use Rattle.runs.specs.Makes.{accepted, ghostly, stored, AllAtoms, JoinGiven, MakesJoin, bytesOf, shownAll}

@@ -4,6 +4,7 @@ pub mod Lists
 pub mod Extend
 pub mod Growing
 pub mod Reading
+pub mod Shows
 pub mod Guards
 pub mod Making
 pub mod Atoms
@@ -22,7 +23,7 @@ pub mod Checked
 pub mod Live
 pub mod Untouched
 pub mod Loads
-pub mod Rows
+pub mod Cases
 pub mod Runs
 pub mod LoadRuns
 pub mod Example

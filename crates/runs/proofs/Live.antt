@@ -11,15 +11,15 @@ use Rattle.rules.specs.Node.{view, bytesNode, smallNode}
 use Rattle.rules.specs.Small.{fits}
 use Rattle.rules.specs.Said.{Said, says, refuses, need, done, settle}
 use Rattle.rules.specs.State.{heap, cutPlain, listsSound, atomSlotSound}
-use Rattle.rules.specs.Reads.{checkpointOf}
+use Rattle.rules.specs.Record.{checkpointOf}
 use Rattle.rules.specs.Restores.{Course, usable, savings, Restoring, noReplace, replace, aborted, cloned, clone, restoreBy, restorePlain, restoreTransparent}
 use Rattle.rules.specs.Tree.{tree}
 use Rattle.rules.proofs.Trees.{tree-bytes}
-use Rattle.runs.specs.State.{St, Whole, storeOf, onStore, plain, transparent, maybe}
+use Rattle.rules.specs.Whole.{St, Whole, storeOf, onStore, plain, transparent, maybe}
 use Rattle.runs.specs.Wf.{ValidIn, WF, From, past, part, Ext, On}
 use Rattle.runs.specs.Makes.{MakesAtom}
 use Rattle.runs.specs.Runs.{Plain, Cut, Transparent, Stands, Later, from, to, answer, MaybeIs}
-use Rattle.runs.specs.Runs as Row
+use Rattle.runs.specs.Runs as Case
 use Rattle.runs.proofs.Tests.{clash, valid-mono, →slots, →sound, →slot, Usable, →usable}
 use Rattle.runs.proofs.Extend.{from-any}
 use Rattle.runs.proofs.Growing.{Grown, grown, on, on-trans, kept-slots, cut-grown, atom-grown}
@@ -99,7 +99,7 @@ module _ {k s : St} (w : WF k) (o : On k s) where
 
     stays : 1024 ≤ savings (k .rec .used) (s .rec) → ValidIn k n → Both k s n (answer noReplace (cutAt (k .rec .used) s))
     stays big v = record {
-      is = Row.before big (valid-mono (view n) (x .atoms) (x .pairs) v) v cut-is (stands n (transparent-on .wf) v refl);
+      is = Case.before big (valid-mono (view n) (x .atoms) (x .pairs) v) v cut-is (stands n (transparent-on .wf) v refl);
       after = kept-one transparent-on;
     }
 
@@ -130,7 +130,7 @@ module _ {k s : St} (w : WF k) (o : On k s) where
           let p : Grown k (sharedAt op h) = atom-grown g 0 (from s i) (to s i) (s .lists .bytes) refl refl (o .wf .octets) (from-any x i (h .used)) (h .ok .order) (omega arith) room-starts room-ends in
           let keeps = share-keeps op h b in
           record {
-            is = Row.old-bytes i (op .big) later a
+            is = Case.old-bytes i (op .big) later a
                 (record { atom-slots = refl; pair-slots = refl; bytes = refl; limit = refl; contents = p .ext .same; totals = keeps .totals })
                 (stands (bytesNode (k .rec .used .atoms)) (keeps .forms (o .wf))
                 (rw (view-bytes (k .rec .used .atoms) bits) (omega arith))
@@ -153,7 +153,7 @@ module _ {k s : St} (w : WF k) (o : On k s) where
             let same-atoms : k .rec .used .atoms ≡ k .rec .used .atoms + 0 = omega arith in
             let same-bytes : k .rec .used .bytes ≡ k .rec .used .bytes + 0 = omega arith in
             record {
-              is = Row.new-small i v (op .big) later a b c e
+              is = Case.new-small i v (op .big) later a b c e
                   (record { atom-slots = same-atoms; pair-slots = refl; bytes = same-bytes; limit = refl; contents = p .ext .same; totals = clone-totals op h a c (some v) })
                   (stands (smallNode v) (p .wf) (m .valid) (m .shows ∙ sym (tree-bytes (s .lists) n i (h .is))));
               after = replaced-one (smallNode v) p;
@@ -162,7 +162,7 @@ module _ {k s : St} (w : WF k) (o : On k s) where
             let m = outcome-says c′ refl .made in
             let p = on-trans extends (m .on) in
             record {
-              is = Row.new-bytes i (op .big) later a b c e
+              is = Case.new-bytes i (op .big) later a b c e
                   (record {
                     atom-slots = refl;
                     pair-slots = refl;
@@ -182,15 +182,15 @@ module _ {k s : St} (w : WF k) (o : On k s) where
         → Both k s n (onStore s (settle r (s .rec) (storeOf s) (restoreBy (k .rec .used) (s .rec) (storeOf s))))
     by-course (unsound h) = clash (listsSound (s .rec) (s .lists)) h (→sound (o .wf .sound))
     by-course (unusable h g) = clash _ g usable-test
-    by-course (little h) = record { is = Row.little h; after = aborted-one }
-    by-course (invalid p h) = record { is = Row.invalid (p .big) h; after = refused-one _ _ }
+    by-course (little h) = record { is = Case.little h; after = aborted-one }
+    by-course (invalid p h) = record { is = Case.invalid (p .big) h; after = refused-one _ _ }
     by-course (bad-slot i e h g) = clash (atomSlotSound (s .rec .used .bytes) (s .lists .atoms) i) g (→slot (s .rec .used .bytes) (s .lists .atoms) i (o .wf .shape .slot i h))
     by-course (early p h) = stays (p .big) h
-    by-course (later-pair i p e h g) = record { is = Row.later-pair i (p .big) e h g; after = aborted-one }
+    by-course (later-pair i p e h g) = record { is = Case.later-pair i (p .big) e h g; after = aborted-one }
     by-course (shared i p h a b) = old i p h a b
     by-course (astride i p h a b) = absurd (omega (arith, old-end i p h a))
-    by-course (too-long i p h a b) = record { is = Row.too-long i (p .big) (later i p h) a b; after = aborted-one }
-    by-course (over-limit i p h a b c) = record { is = Row.over-limit i (p .big) (later i p h) a b c; after = refused-one _ _ }
+    by-course (too-long i p h a b) = record { is = Case.too-long i (p .big) (later i p h) a b; after = aborted-one }
+    by-course (over-limit i p h a b c) = record { is = Case.over-limit i (p .big) (later i p h) a b c; after = refused-one _ _ }
     by-course (copied i p h a b c) = new i p h a b c
 
     pub maybe-both : Both k s n (maybe k n s)

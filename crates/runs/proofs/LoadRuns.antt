@@ -7,7 +7,7 @@ use lib.Seq.{slice}
 use Rattle.rules.specs.Small.{Octets}
 use Rattle.rules.specs.Said.{Said, says, refuses, saysOf, Done}
 use Rattle.rules.specs.Restores.{noReplace}
-use Rattle.runs.specs.State.{St, Whole, load, Making, atom, pair, make, plain, Way, plainly, restore}
+use Rattle.rules.specs.Whole.{St, Whole, load, Making, atom, pair, make, plain, Way, plainly, restore}
 use Rattle.runs.specs.Wf.{WF}
 use Rattle.runs.specs.Loads.{Calls, no-call, atom-call, pair-call, LoadIs}
 use Rattle.runs.specs.Runs as Run

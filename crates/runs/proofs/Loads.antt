@@ -10,13 +10,13 @@ use lib.Seq.{slice}
 use Rattle.rules.specs.declared.Allocator.{Allocator}
 use Rattle.rules.specs.Node.{view, nil}
 use Rattle.rules.specs.Small.{Octets}
-use Rattle.rules.specs.Said.{Said, says, refuses}
+use Rattle.rules.specs.Said.{Said, says, refuses, onward}
 use Rattle.rules.specs.State.{Lists, listsSound}
 use Rattle.rules.specs.Serial.{Token, broken, opening, string, token}
 use Rattle.rules.specs.Load as L
 use Rattle.rules.specs.Load.{Reading, reading, placed, itemAs, readPair, item, atEnd, orBack, levelsOf}
 use Rattle.rules.proofs.Tests.{choice}
-use Rattle.runs.specs.State.{St, Whole, newAtom, newPair, left, load}
+use Rattle.rules.specs.Whole.{St, Whole, newAtom, newPair, left, load}
 use Rattle.runs.specs.Wf.{ValidIn, WF, Same, On}
 use Rattle.runs.specs.Makes.{Outcome}
 use Rattle.runs.specs.Makes as M
@@ -61,10 +61,13 @@ module _ (f : List ℕ) where
   one-more (M.refused code node) c g = c
   one-more (M.accepted n t p) c g = g n refl
 
-  then-calls : {k : St} (x : Said ℕ) (r : Reading) (g : ℕ → ℕ → Allocator → Lists → Reading) → Calls f k (left r .next)
-      → ((n : ℕ) → Calls f k (left (g n (r .at) (r .rec) (r .lists)) .next)) → Calls f k (left (L.onward x r g) .next)
-  then-calls (says n) r g c h = h n
-  then-calls (refuses code node) r g c h = c
+  then-calls : {k : St} (r : Reading) (g : ℕ → ℕ → Allocator → Lists → Reading) → Calls f k (left r .next)
+      → ((n : ℕ) → Calls f k (left (g n (r .at) (r .rec) (r .lists)) .next)) → Calls f k (left (L.after r g) .next)
+  then-calls {k} r g c h = by (r .said)
+    where
+      by : (x : Said ℕ) → Calls f k (left (onward x r (λ n. g n (r .at) (r .rec) (r .lists))) .next)
+      by (says n) = h n
+      by (refuses code node) = c
 
   item-more : {k : St} (levels at : ℕ) (s : St) → Calls f k s → Calls f k (left (item f levels at (s .rec) (s .lists)) .next)
   unfolding item
@@ -78,10 +81,10 @@ module _ (f : List ℕ) where
       by opening below =
           let x = item f levels (at + 1) (s .rec) (s .lists) in
           let d = below (at + 1) s c in
-          then-calls (x .said) x _ d λ first.
+          then-calls x (λ first mid a l. L.after (item f levels mid a l) λ rest next b m. L.readPair at next first rest b m) d λ first.
           let y = item f levels (x .at) (x .rec) (x .lists) in
           let e = below (x .at) (left x .next) d in
-          then-calls (y .said) y _ e λ rest. one-more (pair-untouched (left y .next) first rest) e (pair-call e first rest)
+          then-calls y (λ rest next b m. L.readPair at next first rest b m) e λ rest. one-more (pair-untouched (left y .next) first rest) e (pair-call e first rest)
 
   pub item-calls : (levels at : ℕ) (s : St) → Calls f s (left (item f levels at (s .rec) (s .lists)) .next)
   item-calls levels at s = item-more levels at s no-call

@@ -21,7 +21,7 @@ use Rattle.rules.proofs.Tests.{both}
 use Rattle.rules.proofs.Smalls.{fits-value, fits-bytes, be-octets}
 use Rattle.rules.proofs.Overs.{take-over, length-over}
 use Rattle.rules.proofs.Trees.{tree-bytes, tree-small}
-use Rattle.runs.specs.State.{St, Whole, storeOf, onStore, newAtom, newSmallNumber, newU64, newI64, newPair, addGhostPair, removeGhostPair, addGhostAtom}
+use Rattle.rules.specs.Whole.{St, Whole, storeOf, onStore, newAtom, newSmallNumber, newU64, newI64, newPair, addGhostPair, removeGhostPair, addGhostAtom}
 use Rattle.runs.specs.Wf.{ValidIn, WF, past}
 use Rattle.runs.specs.Makes.{Outcome, accepted, MakesNumber, Made, MakesAtom, MakesPair, Moved, Fewer, Effect, ghostly, stored, fitted}
 use Rattle.runs.proofs.Tests.{holds→, valid→}

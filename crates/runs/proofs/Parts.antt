@@ -19,7 +19,7 @@ use Rattle.rules.specs.Tree.{leaf}
 use Rattle.rules.proofs.Tests.{both}
 use Rattle.rules.proofs.Smalls.{length-be, be-octets, fits-value, fits-bytes, part-short}
 use Rattle.rules.proofs.Trees.{tree-bytes, tree-small}
-use Rattle.runs.specs.State.{St, Whole, storeOf, onStore, newSubstr}
+use Rattle.rules.specs.Whole.{St, Whole, storeOf, onStore, newSubstr}
 use Rattle.runs.specs.Wf.{WF}
 use Rattle.runs.specs.Makes as M
 use Rattle.runs.specs.Makes.{accepted, shared, fitted, parted, PartGiven, MakesPart}

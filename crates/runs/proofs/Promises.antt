@@ -13,15 +13,15 @@ use Rattle.rules.specs.declared.Restored.{Restored}
 use Rattle.rules.specs.declared.Loaded.{Loaded}
 use Rattle.rules.specs.Small.{Octets}
 use Rattle.rules.specs.Said.{Said, saysOf, Done, NoLists, noLists, Out}
-use Rattle.rules.specs.State.{Lists, lists, Store, PairSlots}
-use Rattle.rules.specs.Reads.{checkpointOf}
+use Rattle.rules.specs.State.{Lists, lists, Store, PairStore}
+use Rattle.rules.specs.Record.{newLimited, checkpointOf}
 use Rattle.rules.specs.Creates as C
 use Rattle.rules.specs.Restores as R
 use Rattle.rules.specs.Restores.{Restoring, noReplace}
 use Rattle.rules.specs.Load as L
 use Rattle.rules.specs.Load.{Reading}
 use Rattle.rules.specs.Paper.{verdictPaper, maybePaper, made, changed, restored, loaded}
-use Rattle.runs.specs.State.{St, storeOf, alone, onPairs, onStore, left, Making, atom, small-number, u64, i64, pair, substr, concat, ghost-pairs, fewer-ghost-pairs, ghost-atoms, Way, plainly, transparently, withNode}
+use Rattle.rules.specs.Whole.{St, storeOf, pairsOf, slotsOf, alone, onPairs, onStore, left, Making, atom, small-number, u64, i64, pair, substr, concat, ghost-pairs, fewer-ghost-pairs, ghost-atoms, Way, plainly, transparently, withNode}
 use Rattle.runs.specs.Runs as Run
 use Rattle.runs.specs.Runs.{Event, LiveAt, noted, Past}
 
@@ -29,8 +29,8 @@ use Rattle.runs.specs.Runs.{Event, LiveAt, noted, Past}
 abbrev pub afterStore : St → Allocator → Store → St
 afterStore s a t = record { rec = a; lists = lists (t .bytes) (t .atoms) (s .lists .pairs) }
 
-abbrev pub afterPairs : St → Allocator → PairSlots → St
-afterPairs s a p = record { rec = a; lists = lists (s .lists .bytes) (s .lists .atoms) p }
+abbrev pub afterPairs : St → Allocator → PairStore → St
+afterPairs s a p = record { rec = a; lists = lists (s .lists .bytes) (s .lists .atoms) (p .pairs) }
 
 abbrev pub afterAlone : St → Allocator → St
 afterAlone s a = record { rec = a; lists = s .lists }
@@ -41,7 +41,7 @@ module _ {A : Type 0} (s : St) {h : List Event} where
   by-store : (o p : Out A Store) → o ≡ p → Past (onStore s p .next) h → Past (onStore s o .next) h
   by-store o p e x = subst (λ q. Past q h) (sym (ap (λ q. onStore s q .next) e)) x
 
-  by-pairs : (o p : Out A PairSlots) → o ≡ p → Past (onPairs s p .next) h → Past (onPairs s o .next) h
+  by-pairs : (o p : Out A PairStore) → o ≡ p → Past (onPairs s p .next) h → Past (onPairs s o .next) h
   by-pairs o p e x = subst (λ q. Past q h) (sym (ap (λ q. onPairs s q .next) e)) x
 
   by-alone : (o p : Out A NoLists) → o ≡ p → Past (alone s p .next) h → Past (alone s o .next) h
@@ -49,7 +49,7 @@ module _ {A : Type 0} (s : St) {h : List Event} where
 
 -- ---- the first call
 
-pub start-code : (limit : ℕ) (l : Lists) → Octets (l .bytes) → (r : Changed) → changed r ≡ C.newLimited limit → Past (record { rec = r .state; lists = l }) []
+pub start-code : (limit : ℕ) (l : Lists) → Octets (l .bytes) → (r : Changed) → changed r ≡ newLimited limit → Past (record { rec = r .state; lists = l }) []
 start-code limit l o r e =
     subst (λ (a : Allocator). Past (record { rec = a; lists = l }) []) (sym (ap (λ (q : Out Done NoLists). q .rec) e)) (Run.fresh limit l o)
 
@@ -68,7 +68,7 @@ module _ {s : St} {h : List Event} (run : Past s h) where
   pub new-i64-code : (z : ℤ) → mag z < 9223372036854775808 → (r : Made) (t : Store) → made r t ≡ C.newI64 (s .rec) z (storeOf s) → Past (afterStore s (r .state) t) h
   new-i64-code z b r t e = by-store s (made r t) _ e (Run.made run (i64 z b))
 
-  pub new-pair-code : (first rest : ℕ) (r : Made) (p : PairSlots) → made r p ≡ C.newPair (s .rec) first rest (s .lists .pairs) → Past (afterPairs s (r .state) p) h
+  pub new-pair-code : (first rest : ℕ) (r : Made) (p : PairStore) → made r p ≡ C.newPair (s .rec) first rest (pairsOf s) → Past (afterPairs s (r .state) p) h
   new-pair-code first rest r p e = by-pairs s (made r p) _ e (Run.made run (pair first rest))
 
   pub new-substr-code : (n start end : ℕ) (r : Made) (t : Store) → made r t ≡ C.newSubstr (s .rec) n start end (storeOf s) → Past (afterStore s (r .state) t) h
@@ -99,17 +99,17 @@ module _ {s : St} {h : List Event} (run : Past s h) where
   told r = saysOf (λ d. noReplace) (verdictPaper (r .verdict))
 
   module _ {k : St} {c : ℕ} (live : LiveAt c k h) where
-    pub restore-checkpoint-code : (r : Changed) → changed r ≡ R.restorePlain (checkpointOf (k .rec)) (s .rec) (s .lists .atoms) (s .lists .pairs)
+    pub restore-checkpoint-code : (r : Changed) → changed r ≡ R.restorePlain (checkpointOf (k .rec)) (s .rec) (slotsOf s)
         → Past (afterAlone s (r .state)) (noted (told r) c h)
     restore-checkpoint-code r e =
         subst (λ (q : Out Done NoLists). Past (alone s q .next) (noted (saysOf (λ d. noReplace) (q .said)) c h)) (sym e) (Run.back run plainly live)
 
-    pub restore-transparent-checkpoint-code : (r : Changed) → changed r ≡ R.restoreTransparent (k .rec .used) (s .rec) (s .lists .atoms) (s .lists .pairs)
+    pub restore-transparent-checkpoint-code : (r : Changed) → changed r ≡ R.restoreTransparent (k .rec .used) (s .rec) (slotsOf s)
         → Past (afterAlone s (r .state)) (noted (told r) c h)
     restore-transparent-checkpoint-code r e =
         subst (λ (q : Out Done NoLists). Past (alone s q .next) (noted (saysOf (λ d. noReplace) (q .said)) c h)) (sym e) (Run.back run transparently live)
 
-    pub maybe-restore-code : (n : ℕ) (r : Restored) (t : Store) → restored r t ≡ R.maybeRestore (k .rec .used) n (s .rec) (storeOf s) (s .lists .pairs)
+    pub maybe-restore-code : (n : ℕ) (r : Restored) (t : Store) → restored r t ≡ R.maybeRestore (k .rec .used) n (s .rec) (storeOf s) (pairsOf s)
         → Past (afterStore s (r .state) t) (noted (maybePaper (r .answer)) c h)
     maybe-restore-code n r t e =
         subst (λ (q : Out Restoring Store). Past (onStore s q .next) (noted (q .said) c h)) (sym e) (Run.back run (withNode n) live)

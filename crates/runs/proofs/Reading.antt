@@ -7,7 +7,7 @@ use Rattle.rules.specs.Node.{Node, pairAt, bytesAt, small, bad, viewOf, view, p
 use Rattle.rules.specs.State.{Lists, startAt, endAt, firstAt, restAt}
 use Rattle.rules.proofs.Args.{view-low}
 use Rattle.rules.specs.Tree.{Tree, leaf, fork, level, treeTo, tree}
-use Rattle.runs.specs.State.{St}
+use Rattle.rules.specs.Whole.{St}
 use Rattle.runs.specs.Wf.{Valid, ValidIn, Shape, Same}
 use Rattle.rules.proofs.Trees as Trees
 use Rattle.runs.proofs.Tests.{valid-mono, →pair}

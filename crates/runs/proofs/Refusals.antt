@@ -10,11 +10,11 @@ use Rattle.rules.specs.declared.Checkpoint.{Checkpoint}
 use Rattle.rules.specs.Small.{fits, smallBytes}
 use Rattle.rules.specs.Integer.{intBytes}
 use Rattle.rules.specs.Said.{Said, says, refuses, Done, NoLists, noLists, Out, settle}
-use Rattle.rules.specs.State.{Store, PairSlots}
+use Rattle.rules.specs.State.{Store, PairStore}
 use Rattle.rules.specs.Reads.{Atom, range, value, atomOf}
 use Rattle.rules.specs.Creates as C
 use Rattle.rules.specs.Creates.{smallOr, storeAtom, atomTests, smallTests, pairTests, shareRange, substrPut, substrTests, oneTerm, scan, joined, concatPut, concatTests}
-use Rattle.runs.specs.State.{St, Whole, storeOf, alone, onPairs, onStore, newAtom, Making, atom, small-number, u64, i64, pair, substr, concat, ghost-pairs, fewer-ghost-pairs, ghost-atoms, answersNode, answersNone, call, plainTo, transparentTo, maybeTo}
+use Rattle.rules.specs.Whole.{St, Whole, storeOf, pairsOf, alone, onPairs, onStore, newAtom, Making, atom, small-number, u64, i64, pair, substr, concat, ghost-pairs, fewer-ghost-pairs, ghost-atoms, answersNode, answersNone, call, plainTo, transparentTo, maybeTo}
 use Rattle.runs.specs.Makes.{Outcome, refused, accepted, Harmless}
 use Rattle.runs.proofs.Guards.{guard, guard-alone}
 use Rattle.runs.proofs.Restoring.{transparent-keeps, plain-forms, maybe-keeps}
@@ -41,7 +41,7 @@ module _ (s : St) where
   settled-alone (says x) f g = g x
   settled-alone (refuses code node) f g = refused code node
 
-  settled-pairs : {A B : Type 0} (r : Said A) (f : A → Out B PairSlots) → ((x : A) → Harmless s (onPairs s (f x))) → Harmless s (onPairs s (settle r (s .rec) (s .lists .pairs) f))
+  settled-pairs : {A B : Type 0} (r : Said A) (f : A → Out B PairStore) → ((x : A) → Harmless s (onPairs s (f x))) → Harmless s (onPairs s (settle r (s .rec) (pairsOf s) f))
   settled-pairs (says x) f g = g x
   settled-pairs (refuses code node) f g = refused code node
 
@@ -72,7 +72,7 @@ module _ (s : St) where
   call-refused (small-number v) = node-harmless (settled-alone (smallTests (s .rec) v) _ λ d. accepted _ _ tt)
   call-refused (u64 x h) = node-harmless (atom-refused (intBytes (pos x)))
   call-refused (i64 z h) = node-harmless (atom-refused (intBytes z))
-  call-refused (pair first rest) = node-harmless (settled-pairs (pairTests (s .rec) first rest (s .lists .pairs)) _ λ d. accepted _ _ tt)
+  call-refused (pair first rest) = node-harmless (settled-pairs (pairTests (s .rec) first rest (pairsOf s)) _ λ d. accepted _ _ tt)
   call-refused (substr n start end) = node-harmless (settled (substrTests (s .rec) n start end (storeOf s)) _ λ x. substr-put x start end)
   call-refused (concat size ns) = node-harmless (settled (concatTests (s .rec) size (storeOf s)) _ λ d. concat-put size ns)
   call-refused (ghost-pairs amount) = none-harmless (guard-alone _ _ _ _ _ λ t₁. guard-alone _ _ _ _ _ λ t₂. accepted _ _ tt)

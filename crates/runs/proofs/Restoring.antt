@@ -12,7 +12,7 @@ use Rattle.rules.specs.Said.{Said, done, settle}
 use Rattle.rules.specs.State.{startAt, endAt, heap, cut, cutPlain, lessGhosts}
 use Rattle.rules.specs.Restores.{Course, noReplace, replace, aborted, cloned, clone, restoreBy, restorePlain, restoreTransparent}
 use Rattle.rules.proofs.Sound.{slots-lent}
-use Rattle.runs.specs.State.{St, storeOf, onStore, plainTo, transparentTo, maybeTo}
+use Rattle.rules.specs.Whole.{St, storeOf, onStore, plainTo, transparentTo, maybeTo}
 use Rattle.runs.specs.Wf.{WF}
 use Rattle.runs.specs.Makes as M
 use Rattle.runs.specs.Makes.{Outcome, accepted, MakesAtom}

@@ -10,10 +10,10 @@ use borrow.Author.Tests.{le-leb, lt-leb}
 use lib.Dec.{leb}
 use Rattle.rules.specs.Node.{view}
 use Rattle.rules.specs.Said.{Said, says, refuses, need, codeOf, Done}
-use Rattle.rules.specs.Reads.{checkpoint, checkpointOf, transparentCheckpoint}
+use Rattle.rules.specs.Record.{checkpoint, checkpointOf, transparentCheckpoint}
 use Rattle.rules.specs.Restores.{Restoring, noReplace, replace, aborted}
 use Rattle.rules.proofs.Tests.{choice}
-use Rattle.runs.specs.State.{St, Whole, Making, make, Way, plainly, transparently, withNode, nodeless, restore}
+use Rattle.rules.specs.Whole.{St, Whole, Making, make, Way, plainly, transparently, withNode, nodeless, restore}
 use Rattle.runs.specs.Wf.{WF, On}
 use Rattle.runs.specs.Runs.{Event, took, went, count, LiveAt, just-taken, past-take, past-restore, noted, Past, fresh, made, read, taken, back, loaded, longer, MaybeIs, little, invalid, before, later-pair, old-bytes, too-long, over-limit, new-small, new-bytes, Kept, Demand3}
 use Rattle.runs.proofs.Tests.{→limits, valid-mono}
@@ -28,82 +28,82 @@ use Rattle.runs.proofs.Live.{After, refused-one, aborted-one, kept-one,
 
 -- ---- the live checkpoints of a history, newest first, each with its number and the state in which it was taken
 
-record Mark : Type 0 where
+record Point : Type 0 where
   no : ℕ
   st : St
 
 -- those that a restore to number c leaves
-cutMarks : ℕ → List Mark → List Mark
-cutMarks c [] = []
-cutMarks c (m ∷ ms) = cond (leb (m .no) c) (m ∷ ms) (cutMarks c ms)
+cutPoints : ℕ → List Point → List Point
+cutPoints c [] = []
+cutPoints c (m ∷ ms) = cond (leb (m .no) c) (m ∷ ms) (cutPoints c ms)
 
-marks : List Event → List Mark
-marks [] = []
-marks (took s ∷ h) = record { no = count h; st = s } ∷ marks h
-marks (went c ∷ h) = cutMarks c (marks h)
+points : List Event → List Point
+points [] = []
+points (took s ∷ h) = record { no = count h; st = s } ∷ points h
+points (went c ∷ h) = cutPoints c (points h)
 
 -- numbers fall, all below n
-data Falls : ℕ → List Mark → Type 0 where
+data Falls : ℕ → List Point → Type 0 where
   none : {n : ℕ} → Falls n []
-  next : {n : ℕ} {m : Mark} {ms : List Mark} → m .no < n → Falls (m .no) ms → Falls n (m ∷ ms)
+  next : {n : ℕ} {m : Point} {ms : List Point} → m .no < n → Falls (m .no) ms → Falls n (m ∷ ms)
 
-weaken : {n n′ : ℕ} {ms : List Mark} → n ≤ n′ → Falls n ms → Falls n′ ms
+weaken : {n n′ : ℕ} {ms : List Point} → n ≤ n′ → Falls n ms → Falls n′ ms
 weaken h none = none
 weaken h (next l f) = next (le-trans l h) f
 
-falls-cut : (c n : ℕ) (ms : List Mark) → Falls n ms → Falls n (cutMarks c ms)
-unfolding cutMarks
+falls-cut : (c n : ℕ) (ms : List Point) → Falls n ms → Falls n (cutPoints c ms)
+unfolding cutPoints
 falls-cut c n [] none = none
 falls-cut c n (m ∷ ms) (next l f) = choice (Falls n) (leb (m .no) c) _ _ (λ t. next l f) (λ t. weaken {n = m .no} (omega arith) (falls-cut c (m .no) ms f))
 
-falls : (h : List Event) → Falls (count h) (marks h)
-unfolding marks
+falls : (h : List Event) → Falls (count h) (points h)
+unfolding points
 falls [] = none
 falls (took s ∷ h) = next (le-refl _) (falls h)
-falls (went c ∷ h) = falls-cut c (count h) (marks h) (falls h)
+falls (went c ∷ h) = falls-cut c (count h) (points h) (falls h)
 
-data In (c : ℕ) (k : St) : List Mark → Type 0 where
-  here : {m : Mark} {ms : List Mark} → m .no ≡ c → m .st ≡ k → In c k (m ∷ ms)
-  there : {m : Mark} {ms : List Mark} → In c k ms → In c k (m ∷ ms)
+data In (c : ℕ) (k : St) : List Point → Type 0 where
+  here : {m : Point} {ms : List Point} → m .no ≡ c → m .st ≡ k → In c k (m ∷ ms)
+  there : {m : Point} {ms : List Point} → In c k ms → In c k (m ∷ ms)
 
-in-lt : {c n : ℕ} {k : St} {ms : List Mark} → Falls n ms → In c k ms → c < n
+in-lt : {c n : ℕ} {k : St} {ms : List Point} → Falls n ms → In c k ms → c < n
 in-lt (next l f) (here e q) = omega arith
 in-lt (next l f) (there i) = let j = in-lt f i in omega arith
 
-in-cut : {b c : ℕ} {k : St} {ms : List Mark} → c ≤ b → In c k ms → In c k (cutMarks b ms)
-unfolding cutMarks
+in-cut : {b c : ℕ} {k : St} {ms : List Point} → c ≤ b → In c k ms → In c k (cutPoints b ms)
+unfolding cutPoints
 in-cut {b} {c} {k} h (here {m = m} {ms = ms} e q) = rw (le-leb (m .no) b (omega arith)) (here e q)
 in-cut {b} {c} {k} h (there {m = m} {ms = ms} i) = choice (In c k) (leb (m .no) b) _ _ (λ t. there i) (λ t. in-cut h i)
 
 -- a live checkpoint is among them
-live-in : {c : ℕ} {k : St} {h : List Event} → LiveAt c k h → In c k (marks h)
-unfolding marks
+live-in : {c : ℕ} {k : St} {h : List Event} → LiveAt c k h → In c k (points h)
+unfolding points
 live-in (just-taken e) = here (sym e) refl
 live-in (past-take l) = there (live-in l)
 live-in (past-restore l h) = in-cut h (live-in l)
 
 -- ---- the invariant: s extends the first state, the first extends the second, ..
 
-data Chain : List Mark → St → Type 0 where
+data Chain : List Point → St → Type 0 where
   end : {s : St} → WF s → Chain [] s
-  over : {m : Mark} {s : St} {ms : List Mark} → Chain ms (m .st) → On (m .st) s → Chain (m ∷ ms) s
+  over : {m : Point} {s : St} {ms : List Point} → Chain ms (m .st) → On (m .st) s → Chain (m ∷ ms) s
 
-wf-of : {ms : List Mark} {s : St} → Chain ms s → WF s
+wf-of : {ms : List Point} {s : St} → Chain ms s → WF s
 wf-of (end w) = w
 wf-of (over c o) = o .wf
 
-grow : {ms : List Mark} {s s′ : St} → Chain ms s → On s s′ → Chain ms s′
+grow : {ms : List Point} {s s′ : St} → Chain ms s → On s s′ → Chain ms s′
 grow (end w) o = end (o .wf)
 grow (over c p) o = over c (on-trans (p .ext) o)
 
 -- what a chain says of one of its checkpoints
-record Reached (k s : St) (left : List Mark) : Type 0 where
+record Reached (k s : St) (left : List Point) : Type 0 where
   wf : WF k
   on : On k s
   cut : (s′ : St) → On k s′ → Chain left s′
 
-reach : {c n : ℕ} {k s : St} {ms : List Mark} → Falls n ms → Chain ms s → In c k ms → Reached k s (cutMarks c ms)
-unfolding cutMarks
+reach : {c n : ℕ} {k s : St} {ms : List Point} → Falls n ms → Chain ms s → In c k ms → Reached k s (cutPoints c ms)
+unfolding cutPoints
 reach {c} {n} {k} {s} (next {m = m} {ms = ms} l f) (over ch o) (here e q) = rw (le-leb (m .no) c (omega arith))
     (subst (λ (j : St). Reached j s (m ∷ ms)) q (record { wf = wf-of ch; on = o; cut = λ s′ p. over ch p }))
 reach {c} {n} {k} {s} (next {m = m} {ms = ms} l f) (over ch o) (there i) =
@@ -118,16 +118,16 @@ after plainly {k} {s} w o = subst (λ (r : Whole Done). After k s (nodeless r)) 
 after transparently {k} {s} w o = subst (λ (r : Whole Done). After k s (nodeless r)) (sym (transparent-eq w o)) (kept-one (transparent-on w o))
 after (withNode n) w o = maybe-both w o n .after
 
-return : (c : ℕ) (h : List Event) {k s : St} {o : Whole Restoring} → Chain (marks h) s → Reached k s (cutMarks c (marks h)) → After k s o
-    → Chain (marks (noted (o .said) c h)) (o .next)
-unfolding marks
+return : (c : ℕ) (h : List Event) {k s : St} {o : Whole Restoring} → Chain (points h) s → Reached k s (cutPoints c (points h)) → After k s o
+    → Chain (points (noted (o .said) c h)) (o .next)
+unfolding points
 return c h ch r (refused-one code node) = ch
 return c h ch r aborted-one = ch
 return c h ch r (kept-one p) = r .cut _ p
 return c h ch r (replaced-one m p) = r .cut _ p
 
-chain : {s : St} {h : List Event} → Past s h → Chain (marks h) s
-unfolding marks
+chain : {s : St} {h : List Event} → Past s h → Chain (points h) s
+unfolding points
 chain (fresh limit l o) = end (fresh-wf limit l o)
 chain (made r m) = let c = chain r in grow c (make-on (wf-of c) m)
 chain (read r) = chain r
@@ -191,6 +191,6 @@ pub run-takes : {s : St} {h : List Event} → Past s h → checkpoint (s .rec) �
 unfolding need
 run-takes p = rw (→limits (run-wf p .sound))
 
-pub run-marks : {s : St} {h : List Event} → Past s h → transparentCheckpoint (s .rec) ≡ says (s .rec .used)
+pub run-points : {s : St} {h : List Event} → Past s h → transparentCheckpoint (s .rec) ≡ says (s .rec .used)
 unfolding need
-run-marks p = rw (→limits (run-wf p .sound))
+run-points p = rw (→limits (run-wf p .sound))

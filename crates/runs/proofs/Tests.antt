@@ -16,7 +16,7 @@ use Rattle.rules.proofs.Tests.{both}
 use Rattle.rules.proofs.Alls.{all-at, all-hold}
 use Rattle.rules.proofs.Limits.{limits-hold}
 use Rattle.rules.proofs.Sound.{lists-lent}
-use Rattle.runs.specs.State.{St}
+use Rattle.rules.specs.Whole.{St}
 use Rattle.runs.specs.Wf.{Valid, Sound, SlotOk, PairOk, Shape}
 
 pub and-true : (x y : Bool) → x ≡ true → y ≡ true → (x && y) ≡ true

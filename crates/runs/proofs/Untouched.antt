@@ -10,7 +10,7 @@ use Rattle.rules.specs.Small.{fits}
 use Rattle.rules.specs.Creates.{storeAtom, atomTests, atomPut, pairTests}
 use Rattle.rules.proofs.Sound.{store-lent}
 use Rattle.rules.proofs.Overs.{take-over}
-use Rattle.runs.specs.State.{St, storeOf, onStore, newAtom, newPair}
+use Rattle.rules.specs.Whole.{St, storeOf, onStore, newAtom, newPair}
 use Rattle.runs.specs.Wf.{Same}
 use Rattle.runs.specs.Makes.{Outcome, accepted}
 use Rattle.runs.proofs.Extend.{agree-trans, atoms-trans, pairs-trans, atoms-put, pairs-put, same-refl}

@@ -8,7 +8,7 @@ use Rattle.rules.specs.declared.Allocator.{Allocator}
 use Rattle.rules.specs.Said.{says}
 use Rattle.rules.specs.State.{Lists, store, atoms, pairs, heap, cut, lessGhosts}
 use Rattle.rules.specs.Creates.{newAtom}
-use Rattle.runs.specs.State.{St}
+use Rattle.rules.specs.Whole.{St}
 use Rattle.runs.specs.Wf.{WF}
 
 -- the three totals are those of the moment before

@@ -10,7 +10,7 @@ use Rattle.rules.specs.Small.{fits, lenFor}
 use Rattle.rules.specs.Integer.{intBytes}
 use Rattle.rules.specs.Said.{Said, says, refuses}
 use Rattle.rules.specs.State.{atoms, pairs, heap}
-use Rattle.runs.specs.State.{St, Making, atom, small-number, u64, i64, pair, substr, concat, ghost-pairs, fewer-ghost-pairs, ghost-atoms}
+use Rattle.rules.specs.Whole.{St, Making, atom, small-number, u64, i64, pair, substr, concat, ghost-pairs, fewer-ghost-pairs, ghost-atoms}
 use Rattle.runs.specs.Wf.{ValidIn}
 use Rattle.runs.specs.Makes.{Effect, fitted, paired, parted, joinedAs, shown, Within, AtomIn, PartGiven, JoinGiven}
 

@@ -1,5 +1,4 @@
 -- Whole states, and what is proved of the rules over them.
-pub mod State
 pub mod Wf
 pub mod Makes
 pub mod Causes

@@ -9,20 +9,12 @@ use Rattle.rules.specs.Small.{fits}
 use Rattle.rules.specs.Said.{Said, says, refuses, done}
 use Rattle.rules.specs.State.{pairs}
 use Rattle.rules.specs.Tree.{Tree, leaf, fork}
-use Rattle.runs.specs.State.{St, Whole, newAtom, newPair, plain}
+use Rattle.rules.specs.Whole.{St, Whole, after, newAtom, newPair, plain}
 use Rattle.runs.specs.Wf.{ValidIn}
 use Rattle.runs.specs.Makes.{fitted, paired, Within}
 use Rattle.runs.specs.Causes.{Beyond, Full, Free, RoomFor}
 
 -- ---- the calls that make a tree
-
--- on with the node, or stop at the first refusal
-abbrev pub onward : Said ℕ → Whole ℕ → (ℕ → St → Whole ℕ) → Whole ℕ
-onward (says n) o f = f n (o .next)
-onward (refuses code node) o f = o
-
-abbrev pub after : Whole ℕ → (ℕ → St → Whole ℕ) → Whole ℕ
-after o f = onward (o .said) o f
 
 -- an atom by new_atom; first, rest, then new_pair
 unfoldable pub build : Tree → St → Whole ℕ

@@ -11,7 +11,7 @@ use Rattle.rules.specs.Small.{fits, lenFor, smallBytes}
 use Rattle.rules.specs.Said.{says, refuses, Done}
 use Rattle.rules.specs.State.{Lists, atoms, pairs, heap}
 use Rattle.rules.specs.Tree.{Tree, leaf, fork, tree}
-use Rattle.runs.specs.State.{St, Whole}
+use Rattle.rules.specs.Whole.{St, Whole}
 use Rattle.runs.specs.Wf.{ValidIn, On}
 
 -- a refusal leaves the state as it was; an answer x leaves one of which P holds

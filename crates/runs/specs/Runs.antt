@@ -9,10 +9,10 @@ use Rattle.rules.specs.Node.{pairAt, bytesAt, view, bytesNode, smallNode, nil}
 use Rattle.rules.specs.Small.{fits, Octets}
 use Rattle.rules.specs.Said.{Said, says, refuses, codeOf, Done, done}
 use Rattle.rules.specs.State.{Lists, startAt, endAt, heap}
-use Rattle.rules.specs.Creates.{newLimited}
-use Rattle.rules.specs.Restores.{Restoring, noReplace, replace, aborted}
+use Rattle.rules.specs.Record.{newLimited}
+use Rattle.rules.specs.Restores.{Restoring, noReplace, replace, aborted, savings}
 use Rattle.rules.specs.Tree.{Tree, tree}
-use Rattle.runs.specs.State.{St, Whole, Making, make, load, plain, transparent, maybe, Way, restore}
+use Rattle.rules.specs.Whole.{St, Whole, Making, make, load, plain, transparent, maybe, Way, restore}
 use Rattle.runs.specs.Wf.{ValidIn, Same, Room}
 use Rattle.runs.specs.ByCalls.{ReadsAs, SameAnswers}
 use Rattle.runs.specs.Back.{Totals}
@@ -89,11 +89,9 @@ pub record Stands (s : St) (n m : ℕ) (s′ : St) : Type 0 where
   pub reads : (t : Tree) → ReadsAs s n t → ReadsAs s′ m t
   pub shows : tree (s′ .lists) m ≡ tree (s .lists) n
 
--- the savings: bytes cut + 8 × (atoms cut + pairs cut)
+-- the savings
 abbrev pub savedBy : St → St → ℕ
-savedBy k s =
-    (s .rec .used .bytes - k .rec .used .bytes)
-    + 8 * ((s .rec .used .atoms - k .rec .used .atoms) + (s .rec .used .pairs - k .rec .used .pairs))
+savedBy k s = savings (k .rec .used) (s .rec)
 
 -- the node is Bytes, of slot i, later than the checkpoint
 pub record Later (k s : St) (n i : ℕ) : Type 0 where
@@ -115,7 +113,7 @@ abbrev pub refusal : ℕ → St → Whole Restoring
 refusal code s = record { said = refuses code nil; next = s }
 
 -- "maybe_restore_with_node aborts, is refused or restores exactly when document 01 says":
--- its rule at a live checkpoint, a row for each case; no row has 1, 3, 11, 12 or 15
+-- its rule at a live checkpoint, case by case; none has 1, 3, 11, 12 or 15
 pub data MaybeIs (k s : St) (n : ℕ) : Whole Restoring → Type 0 where
   little : savedBy k s < 1024 → MaybeIs k s n (answer aborted s)
   invalid : 1024 ≤ savedBy k s → (ValidIn s n → ⊥) → MaybeIs k s n (refusal 5 s)
@@ -137,17 +135,17 @@ pub data MaybeIs (k s : St) (n : ℕ) : Whole Restoring → Type 0 where
       → Cut 1 (to s i - from s i) k s s′ → Stands s n (bytesNode (k .rec .used .atoms)) s′
       → MaybeIs k s n (answer (replace (bytesNode (k .rec .used .atoms))) s′)
 
--- the number of a row: two that hold at once are one (proofs/Rows.antt)
-abbrev pub row : {k s : St} {n : ℕ} {o : Whole Restoring} → MaybeIs k s n o → ℕ
-row (little h) = 1
-row (invalid h g) = 2
-row (before h u v c t) = 3
-row (later-pair i h e a b) = 4
-row (old-bytes i h l a c t) = 5
-row (too-long i h l a b) = 6
-row (over-limit i h l a b c) = 7
-row (new-small i v h l a b c e d t) = 8
-row (new-bytes i h l a b c e d t) = 9
+-- the number of a case: two that hold at once are one (proofs/Cases.antt)
+abbrev pub caseOf : {k s : St} {n : ℕ} {o : Whole Restoring} → MaybeIs k s n o → ℕ
+caseOf (little h) = 1
+caseOf (invalid h g) = 2
+caseOf (before h u v c t) = 3
+caseOf (later-pair i h e a b) = 4
+caseOf (old-bytes i h l a c t) = 5
+caseOf (too-long i h l a b) = 6
+caseOf (over-limit i h l a b c) = 7
+caseOf (new-small i v h l a b c e d t) = 8
+caseOf (new-bytes i h l a b c e d t) = 9
 
 -- what a live checkpoint, taken in the state k, is good for in the state s
 pub record Kept (k s : St) : Type 0 where

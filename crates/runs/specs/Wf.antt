@@ -7,7 +7,7 @@ use Rattle.rules.specs.declared.Allocator.{Allocator}
 use Rattle.rules.specs.Node.{Node, pairAt, bytesAt, small, bad, view}
 use Rattle.rules.specs.Small.{Octets}
 use Rattle.rules.specs.State.{AtomSlots, PairSlots, Lists, startAt, endAt, firstAt, restAt, atoms, pairs, heap}
-use Rattle.runs.specs.State.{St}
+use Rattle.rules.specs.Whole.{St}
 
 -- valid: the kind is at most 2, and a pair or Bytes index is below the used count
 abbrev pub Valid : ℕ → ℕ → Node → Type 0

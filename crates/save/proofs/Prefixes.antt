@@ -13,7 +13,7 @@ use lib.ListN.{length, getD, take, drop, set, length-append, length-take}
 use lib.Seq.{take-length, getD-at, set-at}
 use Rattle.rules.specs.Small.{be}
 use Rattle.rules.specs.State.{over}
-use Rattle.rules.specs.Serial.{markOf, limitOf, firstBelow, prefix, extraFor, shortestAtom}
+use Rattle.rules.specs.Serial.{baseOf, limitOf, firstBelow, prefix, extraFor, shortestAtom}
 use Rattle.rules.proofs.Tests.{both, choice}
 use Rattle.rules.proofs.Overs.{tail-over, length-over, over-over}
 use Rattle.rules.proofs.Smalls.{length-be}
@@ -43,23 +43,23 @@ behind-length v h =
 
 -- ---- the first byte of a prefix
 
--- the mark and the length's part make a byte
-abbrev pub Marks : ℕ → ℕ → Type 0
-Marks len k = markOf k + len / 256 ^ k < 256
+-- the base and the length's part make a byte
+abbrev pub FirstFits : ℕ → ℕ → Type 0
+FirstFits len k = baseOf k + len / 256 ^ k < 256
 
-pub mark-fits : (len : ℕ) → len ≤ 4294967295 → Marks len (extraFor len)
-unfolding firstBelow limitOf markOf
-mark-fits len h =
-    choice (Marks len) (ltb len 64) _ _ (λ e. omega (arith, ltb-true len 64 e)) λ e0.
-    choice (Marks len) (ltb len 8192) _ _ (λ e. omega (arith, ltb-true len 8192 e)) λ e1.
-    choice (Marks len) (ltb len 1048576) _ _ (λ e. omega (arith, ltb-true len 1048576 e)) λ e2.
-    choice (Marks len) (ltb len 134217728) _ _ (λ e. omega (arith, ltb-true len 134217728 e)) λ e3. omega arith
+pub base-fits : (len : ℕ) → len ≤ 4294967295 → FirstFits len (extraFor len)
+unfolding firstBelow limitOf baseOf
+base-fits len h =
+    choice (FirstFits len) (ltb len 64) _ _ (λ e. omega (arith, ltb-true len 64 e)) λ e0.
+    choice (FirstFits len) (ltb len 8192) _ _ (λ e. omega (arith, ltb-true len 8192 e)) λ e1.
+    choice (FirstFits len) (ltb len 1048576) _ _ (λ e. omega (arith, ltb-true len 1048576 e)) λ e2.
+    choice (FirstFits len) (ltb len 134217728) _ _ (λ e. omega (arith, ltb-true len 134217728 e)) λ e3. omega arith
 
 -- ---- a prefix is written: e is what put_be left of the lent tail
 
 module _ (l e : List ℕ) (at k len m : ℕ) (room : at + (1 + k) ≤ length l)
     (left : e ≡ be (k + 1) len ++ drop (k + 1) (take (length l - at) (drop at l)))
-    (fits : Marks len k) (mark : m ≡ markOf k) where
+    (fits : FirstFits len k) (base : m ≡ baseOf k) where
   abbrev from-it : List ℕ
   from-it = be k len ++ drop (at + length (be (k + 1) len)) l
 
@@ -81,14 +81,14 @@ module _ (l e : List ℕ) (at k len m : ℕ) (room : at + (1 + k) ≤ length l)
   pub byte-fits : getD (putMid at (length l - at) l e) at 0 + m < 256
   byte-fits = omega (arith, first-byte)
 
-  pub marked : set (putMid at (length l - at) l e) at (getD (putMid at (length l - at) l e) at 0 + m) ≡ over l at (prefix k len)
-  marked =
+  pub first-put : set (putMid at (length l - at) l e) at (getD (putMid at (length l - at) l e) at 0 + m) ≡ over l at (prefix k len)
+  first-put =
       let b : ℕ = getD (putMid at (length l - at) l e) at 0 + m in
-      let p : b ≡ markOf k + len / 256 ^ k = omega (arith, first-byte) in
+      let p : b ≡ baseOf k + len / 256 ^ k = omega (arith, first-byte) in
       let n : length (be (k + 1) len) ≡ length (prefix k len) = omega (arith, length-be (k + 1) len, length-be k len) in
       ap (λ (r : List ℕ). set r at b) whole ∙ set-at (take at l) (len / 256 ^ k) from-it b at before
       ∙ ap (λ (x : ℕ). take at l ++ (x ∷ from-it)) p
-      ∙ ap (λ (x : ℕ). take at l ++ ((markOf k + len / 256 ^ k) ∷ (be k len ++ drop (at + x) l))) n
+      ∙ ap (λ (x : ℕ). take at l ++ ((baseOf k + len / 256 ^ k) ∷ (be k len ++ drop (at + x) l))) n
 
 -- ---- bytes that stand for themselves are written
 

@@ -30,7 +30,7 @@ pub fn form_len(v: &[u8]) -> usize
     1 + prefix::extra_for(len as u64) + len
 }
 
-// Writes the shortest prefix for a length, and says where the bytes begin. The length is big-endian, with the mark added to its first byte.
+// Writes the shortest prefix for a length, and says where the bytes begin. The length is big-endian, with the base added to its first byte.
 fn put_prefix(len: usize, file: &mut [u8], at: usize) -> usize
     requires { ⌜ (len ≤ 4294967295) × (at + (1 + extraFor len) ≤ length (now file)) ⌝ }
     ensures { λ r. ⌜ now (file .exit) ≡ over (now (file .entry)) at (prefixOf (extraFor len) len) ⌝ }
@@ -38,7 +38,7 @@ fn put_prefix(len: usize, file: &mut [u8], at: usize) -> usize
 {
     let extra = prefix::extra_for(len as u64);
     node::put_be(&mut file[at..], len as u64, extra + 1);
-    file[at] = file[at] + prefix::mark(extra) as u8;
+    file[at] = file[at] + prefix::base(extra) as u8;
     at + 1 + extra
 }
 

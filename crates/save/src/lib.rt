@@ -13,7 +13,8 @@ ghost use lib.Dec.{leb};
 ghost use lib.ListN.{length};
 ghost use Rattle.rules.specs.Node.{nil};
 ghost use Rattle.rules.specs.Said.{says, saysOf, need};
-ghost use Rattle.rules.specs.State.{atomSlots, pairSlots, lists, listsSound, over};
+ghost use Rattle.rules.specs.State.{listsSound, over};
+ghost use Rattle.rules.specs.Lent.{listsIn};
 ghost use Rattle.rules.specs.Save.{formOf, save as saveRule};
 ghost use Rattle.rules.specs.Paper.{numberPaper};
 ghost use Rattle.save.specs.Saves.{saving, formed, Accepted};
@@ -40,8 +41,9 @@ fn measure(
     room: usize,
     n: u32,
 ) -> Number
-    requires { ⌜ listsSound a (lists (now bytes) (atomSlots (now starts) (now ends)) (pairSlots (now firsts) (now rests))) ≡ true ⌝ }
-    ensures { λ r. ⌜ numberPaper r ≡ saysOf length (formOf a (lists (now (bytes .entry)) (atomSlots (now (starts .entry)) (now (ends .entry))) (pairSlots (now (firsts .entry)) (now (rests .entry)))) levels room n) ⌝ }
+    requires { ⌜ listsSound a (listsIn bytes starts ends firsts rests) ≡ true ⌝ }
+    ensures { λ r. ⌜ numberPaper r
+        ≡ saysOf length (formOf a (listsIn (bytes .entry) (starts .entry) (ends .entry) (firsts .entry) (rests .entry)) levels room n) ⌝ }
 {
     if levels == 0 {
         return Number::Refused(Code::TooDeep, node::NIL);
@@ -84,10 +86,14 @@ fn put(
     file: &mut [u8],
     at: usize,
 ) -> usize
-    requires { ⌜ listsSound a (lists (now bytes) (atomSlots (now starts) (now ends)) (pairSlots (now firsts) (now rests))) ≡ true ⌝ }
-    requires { ⌜ (at ≤ length (now file)) × Accepted (formOf a (lists (now bytes) (atomSlots (now starts) (now ends)) (pairSlots (now firsts) (now rests))) levels (length (now file) - at) n) ⌝ }
-    ensures { λ r. ⌜ now (file .exit) ≡ over (now (file .entry)) at (formed (formOf a (lists (now (bytes .entry)) (atomSlots (now (starts .entry)) (now (ends .entry))) (pairSlots (now (firsts .entry)) (now (rests .entry)))) levels (length (now (file .entry)) - at) n)) ⌝ }
-    ensures { λ r. ⌜ r ≡ at + length (formed (formOf a (lists (now (bytes .entry)) (atomSlots (now (starts .entry)) (now (ends .entry))) (pairSlots (now (firsts .entry)) (now (rests .entry)))) levels (length (now (file .entry)) - at) n)) ⌝ }
+    requires { ⌜ listsSound a (listsIn bytes starts ends firsts rests) ≡ true ⌝ }
+    requires { ⌜ (at ≤ length (now file)) × Accepted (formOf a (listsIn bytes starts ends firsts rests) levels (length (now file) - at) n) ⌝ }
+    ensures { λ r. ⌜ now (file .exit)
+        ≡ over (now (file .entry)) at
+        (formed (formOf a (listsIn (bytes .entry) (starts .entry) (ends .entry) (firsts .entry) (rests .entry)) levels (length (now (file .entry)) - at) n)) ⌝ }
+    ensures { λ r. ⌜ r
+        ≡ at + length
+        (formed (formOf a (listsIn (bytes .entry) (starts .entry) (ends .entry) (firsts .entry) (rests .entry)) levels (length (now (file .entry)) - at) n)) ⌝ }
 {
     let found = reads::node(a, starts, ends, firsts, rests, n);
     match found {
@@ -116,7 +122,8 @@ pub fn save(
     n: u32,
     file: &mut [u8],
 ) -> Number
-    ensures { λ r. ⌜ saving r (now (file .exit)) ≡ saveRule a (lists (now (bytes .entry)) (atomSlots (now (starts .entry)) (now (ends .entry))) (pairSlots (now (firsts .entry)) (now (rests .entry)))) n (now (file .entry)) ⌝ }
+    ensures { λ r. ⌜ saving r (now (file .exit))
+        ≡ saveRule a (listsIn (bytes .entry) (starts .entry) (ends .entry) (firsts .entry) (rests .entry)) n (now (file .entry)) ⌝ }
 {
     if sound::lists_sound(
         a,

@@ -16,9 +16,9 @@ use Rattle.rules.specs.Serial.{limitOf, prefix, extraFor, shortestAtom, shortes
 use Rattle.rules.proofs.Smalls.{be-octets, small-length}
 use Rattle.rules.proofs.Tests.{choice}
 use Rattle.serial.specs.Forms.{AtomsFit}
-use Rattle.serial.proofs.Table.{marks-grow, last-mark, extra-for}
+use Rattle.serial.proofs.Table.{bases-grow, last-base, extra-for}
 use Rattle.serial.proofs.Digits.{written-first}
-use Rattle.runs.specs.State.{St}
+use Rattle.rules.specs.Whole.{St}
 use Rattle.runs.specs.Wf.{Valid, ValidIn, WF}
 use Rattle.runs.proofs.Tests.{valid-mono}
 use Rattle.rules.proofs.Bytes.{octets-++}
@@ -80,7 +80,7 @@ octets-∷ b l h o (suc i) = o i
 
 pub prefix-octets : (k len : ℕ) → k ≤ 4 → len < limitOf k → Octets (prefix k len)
 prefix-octets k len h l =
-    octets-∷ _ (be k len) (omega (arith, written-first k len h l, marks-grow {i = suc k} {j = 5} (omega arith), last-mark)) (be-octets k len)
+    octets-∷ _ (be k len) (omega (arith, written-first k len h l, bases-grow {i = suc k} {j = 5} (omega arith), last-base)) (be-octets k len)
 
 atom-octets : (v : List ℕ) → length v < limitOf 4 → Octets v → Octets (shortestAtom v)
 unfolding shortestAtom

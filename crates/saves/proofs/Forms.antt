@@ -12,7 +12,7 @@ use Rattle.rules.specs.Said.{Said, says, refuses}
 use Rattle.rules.specs.State.{Lists}
 use Rattle.rules.specs.Serial.{height, shortest}
 use Rattle.rules.specs.Save.{formOf}
-use Rattle.runs.specs.State.{St}
+use Rattle.rules.specs.Whole.{St}
 use Rattle.runs.specs.Wf.{Valid, ValidIn, WF}
 use Rattle.saves.specs.Saves.{form, treeOf, here, Writes, Written, FormCause}
 use Rattle.saves.specs.Saves as S

@@ -12,7 +12,7 @@ use Rattle.rules.specs.Reads.{argOf, childrenOf, visited}
 use Rattle.rules.specs.Serial.{shortest}
 use Rattle.rules.specs.Save.{fitted, formPair, formAs, formOf}
 use Rattle.rules.proofs.Trees.{tree-bytes, tree-small}
-use Rattle.runs.specs.State.{St}
+use Rattle.rules.specs.Whole.{St}
 use Rattle.runs.specs.Wf.{Valid, WF}
 use Rattle.runs.proofs.Tests.{→slot, →pair}
 use Rattle.saves.specs.Saves.{form, treeOf}

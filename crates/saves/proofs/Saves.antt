@@ -23,7 +23,7 @@ use Rattle.rules.proofs.Overs.{length-over}
 use Rattle.serial.proofs.Places.{stands-whole}
 use Rattle.serial.proofs.Parses.{stands-parse, forms-parse}
 use Rattle.serial.proofs.Shortest.{shortest-form, shortest-least}
-use Rattle.runs.specs.State.{St}
+use Rattle.rules.specs.Whole.{St}
 use Rattle.runs.specs.Wf.{WF}
 use Rattle.runs.proofs.Tests.{→sound}
 use Rattle.runs.proofs.Lists.{slice-over}

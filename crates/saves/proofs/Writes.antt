@@ -17,7 +17,7 @@ use Rattle.rules.specs.Serial.{height, shortest, shortestAtom}
 use Rattle.rules.specs.Save.{next, fitted, formPair, formOf}
 use Rattle.rules.proofs.Needs.{need-ind}
 use Rattle.rules.proofs.Trees.{tree-bytes, tree-small}
-use Rattle.runs.specs.State.{St}
+use Rattle.rules.specs.Whole.{St}
 use Rattle.runs.specs.Wf.{Valid, ValidIn, WF}
 use Rattle.runs.proofs.Tests.{valid-mono}
 use Rattle.runs.proofs.Reading.{tree-pair}

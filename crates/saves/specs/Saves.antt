@@ -13,7 +13,7 @@ use Rattle.rules.specs.Serial.{height, shortest, Form, parsed, parse}
 use Rattle.rules.specs.Load.{levelsOf}
 use Rattle.rules.specs.Save as S
 use Rattle.rules.specs.Save.{Saving, formOf}
-use Rattle.runs.specs.State.{St}
+use Rattle.rules.specs.Whole.{St}
 use Rattle.runs.specs.Wf.{ValidIn}
 
 -- ---- saving on a whole state: it changes neither the record nor a list

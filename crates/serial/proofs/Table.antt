@@ -1,4 +1,4 @@
--- The table of prefixes: marks grow, a mark's room is its limit, and the search finds the first bound above a number.
+-- The table of prefixes: bases grow, a base's room is its limit, and the search finds the first bound above a number.
 -- Assumes nothing.
 use Prim.Native.Nat.{ℕ, zero, suc, _+_, _-_, _*_, _^_, _≤_, _<_}
 use mathlib.Core.Path.{_≡_, refl}
@@ -9,32 +9,32 @@ use lib.Dec.{ltb, eqb}
 use lib.Pow.{pow-mono}
 use borrow.Author.Tests.{ltb-true, ltb-false, eqb-true}
 use Rattle.rules.specs.State.{all}
-use Rattle.rules.specs.Serial.{markOf, limitOf, firstBelow, extraFor, extra}
+use Rattle.rules.specs.Serial.{baseOf, limitOf, firstBelow, extraFor, extra}
 use Rattle.rules.proofs.Alls.{all-at}
 use Rattle.rules.proofs.Tests.{choice}
 use Rattle.serial.specs.Forms.{First}
 
--- ---- marks and limits
+-- ---- bases and limits
 
-pub marks-grow : {i j : ℕ} → i ≤ j → markOf i ≤ markOf j
-unfolding markOf
-marks-grow {i} {j} h = let p : 2 ^ (7 - j) ≤ 2 ^ (7 - i) = pow-mono (omega arith) in omega arith
+pub bases-grow : {i j : ℕ} → i ≤ j → baseOf i ≤ baseOf j
+unfolding baseOf
+bases-grow {i} {j} h = let p : 2 ^ (7 - j) ≤ 2 ^ (7 - i) = pow-mono (omega arith) in omega arith
 
 -- the first bytes that are the prefixes' of k + 1 bytes, times what the others write, are the lengths below the limit
-pub mark-room : (k : ℕ) → k ≤ 4 → (markOf (suc k) - markOf k) * 256 ^ k ≡ limitOf k
-unfolding markOf limitOf all
-mark-room k h =
-    eqb-true ((markOf (suc k) - markOf k) * 256 ^ k) (limitOf k)
-    (all-at (λ i. eqb ((markOf (suc i) - markOf i) * 256 ^ i) (limitOf i)) 5 k refl (omega arith))
+pub base-room : (k : ℕ) → k ≤ 4 → (baseOf (suc k) - baseOf k) * 256 ^ k ≡ limitOf k
+unfolding baseOf limitOf all
+base-room k h =
+    eqb-true ((baseOf (suc k) - baseOf k) * 256 ^ k) (limitOf k)
+    (all-at (λ i. eqb ((baseOf (suc i) - baseOf i) * 256 ^ i) (limitOf i)) 5 k refl (omega arith))
 
 -- the ends of the table
-pub first-mark : markOf 0 ≡ 0x80
-unfolding markOf
-first-mark = refl
+pub first-base : baseOf 0 ≡ 0x80
+unfolding baseOf
+first-base = refl
 
-pub last-mark : markOf 5 ≡ 0xfc
-unfolding markOf
-last-mark = refl
+pub last-base : baseOf 5 ≡ 0xfc
+unfolding baseOf
+last-base = refl
 
 -- ---- the first bound above a number
 
@@ -85,30 +85,30 @@ first-only {r} {s} c d = only (decLt r s) (decLt s r)
 
 -- ---- the table searched: by a first byte, and by a length
 
-pub extra-is : (b k : ℕ) → k ≤ 4 → markOf k ≤ b → b < markOf (suc k) → extra b ≡ k
-extra-is b k h p q = first-only (first-below (λ i. markOf (suc i)) 4 0 b) (record {
+pub extra-is : (b k : ℕ) → k ≤ 4 → baseOf k ≤ b → b < baseOf (suc k) → extra b ≡ k
+extra-is b k h p q = first-only (first-below (λ i. baseOf (suc i)) 4 0 b) (record {
   low = omega arith;
   high = omega arith;
-  past = λ j u v. omega (arith, marks-grow {i = suc j} {j = k} v);
+  past = λ j u v. omega (arith, bases-grow {i = suc j} {j = k} v);
   found = λ u. q;
 })
 
 pub record Extra (b k : ℕ) : Type 0 where
   pub listed : k ≤ 4
-  pub from : markOf k ≤ b
-  pub below : b < markOf (suc k)
+  pub from : baseOf k ≤ b
+  pub below : b < baseOf (suc k)
 
 pub extra-in : (b : ℕ) → 0x80 ≤ b → b < 0xfc → Extra b (extra b)
 extra-in b h l =
-    let c = first-below (λ i. markOf (suc i)) 4 0 b in
+    let c = first-below (λ i. baseOf (suc i)) 4 0 b in
     record {
       listed = omega (arith, c .high);
       from = reached (extra b) (c .past);
-      below = first-above (λ i. markOf (suc i)) 4 0 b (rw last-mark l);
+      below = first-above (λ i. baseOf (suc i)) 4 0 b (rw last-base l);
     }
   where
-    reached : (k : ℕ) → ((j : ℕ) → 0 ≤ j → j < k → markOf (suc j) ≤ b) → markOf k ≤ b
-    reached zero g = rw first-mark h
+    reached : (k : ℕ) → ((j : ℕ) → 0 ≤ j → j < k → baseOf (suc j) ≤ b) → baseOf k ≤ b
+    reached zero g = rw first-base h
     reached (suc k) g = g k (omega arith) (omega arith)
 
 pub extra-for : (len : ℕ) → len < limitOf 4 → (extraFor len ≤ 4) × (len < limitOf (extraFor len))

@@ -9,12 +9,12 @@ use lib.ListN.{length, getD, length-append}
 use lib.Seq.{slice, slice-cons, slice-empty, length-slice}
 use borrow.Author.Tests.{ltb-true, ltb-false, leb-true, leb-false, eqb-true, lt-ltb, le-ltb, le-leb, lt-leb, ne-eqb}
 use Rattle.rules.specs.Small.{be, Octets}
-use Rattle.rules.specs.Serial.{markOf, prefix, AtomForm, itself, behind, Token, broken, opening, string, extra, lengthIn, token}
+use Rattle.rules.specs.Serial.{baseOf, prefix, AtomForm, itself, behind, Token, broken, opening, string, extra, lengthIn, token}
 use Rattle.rules.proofs.Bytes.{octets-slice}
 use Rattle.rules.proofs.Smalls.{length-be}
 use Rattle.rules.proofs.Tests.{choice}
 use Rattle.serial.specs.Forms.{TokenIn}
-use Rattle.serial.proofs.Table.{marks-grow, first-mark, last-mark, extra-is, extra-in}
+use Rattle.serial.proofs.Table.{bases-grow, first-base, last-base, extra-is, extra-in}
 use Rattle.serial.proofs.Digits.{written-first, written-read, read-limit, read-written}
 use Rattle.serial.proofs.Places.{Stands, stands-left, stands-right, stands-head, stands-inside, stands-slice, slice-split}
 
@@ -29,13 +29,13 @@ module _ (f : List ℕ) (at : ℕ) (h : at < length f) where
   unfolding token
   token-opening e = rw (lt-leb (length f) at h, e)
 
-  pub token-prefix : (k : ℕ) → k ≤ 4 → markOf k ≤ getD f at 0 → getD f at 0 < markOf (suc k) → at + 1 + k + lengthIn f at k ≤ length f
+  pub token-prefix : (k : ℕ) → k ≤ 4 → baseOf k ≤ getD f at 0 → getD f at 0 < baseOf (suc k) → at + 1 + k + lengthIn f at k ≤ length f
       → token f at ≡ string (at + 1 + k) (at + 1 + k + lengthIn f at k)
   unfolding token
   token-prefix k l p q r =
       let b : ℕ = getD f at 0 in
-      let lo : 0x80 ≤ b = omega (arith, first-mark, marks-grow {i = 0} {j = k} (omega arith)) in
-      let hi : b < 0xfc = omega (arith, last-mark, marks-grow {i = suc k} {j = 5} (omega arith)) in
+      let lo : 0x80 ≤ b = omega (arith, first-base, bases-grow {i = 0} {j = k} (omega arith)) in
+      let hi : b < 0xfc = omega (arith, last-base, bases-grow {i = suc k} {j = 5} (omega arith)) in
       rw (
         lt-leb (length f) at h,
         le-ltb b 0x80 lo,
@@ -62,7 +62,7 @@ form-token (itself b e l) f at s =
     }
 form-token {v} (behind k h l) f at s =
     let n : ℕ = length v in
-    let b : ℕ = markOf k + n / 256 ^ k in
+    let b : ℕ = baseOf k + n / 256 ^ k in
     let i = stands-inside f at (prefix k n ++ v) s in
     let byte : getD f at 0 ≡ b = stands-head f at b (be k n ++ v) s in
     let rest : Stands f (at + 1) (be k n) = stands-left f (at + 1) (be k n) v (stands-right f at (b ∷ []) (be k n ++ v) s) in
@@ -73,8 +73,8 @@ form-token {v} (behind k h l) f at s =
     let len : lengthIn f at k ≡ n = rw (byte, read) (written-read k n) in
     let to : at + 1 + k + n ≡ at + length (prefix k n ++ v) = omega (arith, length-append (be k n) v, length-be k n) in
     let ends : at + 1 + k + lengthIn f at k ≤ length f = omega arith in
-    let lo : markOf k ≤ getD f at 0 = omega arith in
-    let hi : getD f at 0 < markOf (suc k) = rw byte (written-first k n h l) in
+    let lo : baseOf k ≤ getD f at 0 = omega arith in
+    let hi : getD f at 0 < baseOf (suc k) = rw byte (written-first k n h l) in
     subst (AtomAt f at v) to (record {
       from = at + 1 + k;
       token-is = token-prefix f at (omega arith) k h lo hi ends ∙ ap (λ (m : ℕ). string (at + 1 + k) (at + 1 + k + m)) len;
@@ -88,7 +88,7 @@ pub data Shown (f : List ℕ) (at : ℕ) : Token → Type 0 where
   no-item : Shown f at broken
   a-pair : at < length f → getD f at 0 ≡ 0xff → Shown f at opening
   a-byte : at < length f → getD f at 0 < 0x80 → Shown f at (string at (at + 1))
-  a-string : (k : ℕ) → k ≤ 4 → markOf k ≤ getD f at 0 → getD f at 0 < markOf (suc k) → at + 1 + k + lengthIn f at k ≤ length f
+  a-string : (k : ℕ) → k ≤ 4 → baseOf k ≤ getD f at 0 → getD f at 0 < baseOf (suc k) → at + 1 + k + lengthIn f at k ≤ length f
       → Shown f at (string (at + 1 + k) (at + 1 + k + lengthIn f at k))
 
 pub token-shown : (f : List ℕ) (at : ℕ) → Shown f at (token f at)

@@ -6,17 +6,28 @@ pub mod sound;
 use rules::Allocator;
 use rules::Changed;
 use rules::Code;
-use rules::Marked;
 use rules::Number;
 use rules::Taken;
+use rules::TakenCounts;
 use rules::Verdict;
 ghost use mathlib.Core.Path.{_≡_};
 ghost use Rattle.rules.specs.Node.{nil};
 ghost use Rattle.rules.specs.Said.{says, need};
-ghost use Rattle.rules.specs.State.{limitsSound, atomSlots, pairSlots, lists, wellFormed};
-ghost use Rattle.rules.specs.Reads.{atomCount, allocatedAtomCount, pairCount, allocatedPairCount, heapSize, allocatedHeapSize, checkpoint as checkpointOf, transparentCheckpoint};
-ghost use Rattle.rules.specs.Creates.{newLimited};
-ghost use Rattle.rules.specs.Paper.{numberPaper, takenPaper, markedPaper, changed};
+ghost use Rattle.rules.specs.State.{limitsSound, wellFormed};
+ghost use Rattle.rules.specs.Lent.{listsIn};
+ghost use Rattle.rules.specs.Record.{atomCount, allocatedAtomCount, pairCount, allocatedPairCount, heapSize, allocatedHeapSize, checkpoint as checkpointOf};
+ghost use Rattle.rules.specs.Record.{transparentCheckpoint, newLimited};
+ghost use Rattle.rules.specs.Paper.{numberPaper, takenPaper, takenCountsPaper, changed};
+
+// A refusal of a call that makes no node: the record as it was given.
+pub fn refused(code: Code, a: Allocator) -> Changed
+    ensures { λ r. ⌜ (r .verdict ≡ Verdict.Refused code 134217728) × (r .state ≡ a) ⌝ }
+{
+    Changed {
+        verdict: Verdict::Refused(code, node::NIL),
+        state: a,
+    }
+}
 
 // A fresh record: nil and one are counted as if they had been allocated.
 pub fn new_limited(limit: usize) -> Changed
@@ -28,10 +39,7 @@ pub fn new_limited(limit: usize) -> Changed
             state: record::fresh(limit),
         };
     }
-    Changed {
-        verdict: Verdict::Refused(Code::Unsound, node::NIL),
-        state: record::fresh(0),
-    }
+    refused(Code::Unsound, record::fresh(0))
 }
 
 // A count of a sound record.
@@ -85,20 +93,20 @@ pub fn checkpoint(a: Allocator) -> Taken
     ensures { λ r. ⌜ takenPaper r ≡ checkpointOf a ⌝ }
 {
     if sound::limits_sound(a) {
-        return Taken::Plain(record::mark(a));
+        return Taken::Plain(record::checkpoint(a));
     }
     Taken::Refused(Code::Unsound, node::NIL)
 }
 
 // The three used counts to which a transparent restore cuts.
-pub fn transparent_checkpoint(a: Allocator) -> Marked
-    ensures { λ r. ⌜ markedPaper r ≡ transparentCheckpoint a ⌝ }
+pub fn transparent_checkpoint(a: Allocator) -> TakenCounts
+    ensures { λ r. ⌜ takenCountsPaper r ≡ transparentCheckpoint a ⌝ }
 {
     if sound::limits_sound(a) {
         let used = a.used;
-        return Marked::Transparent(used);
+        return TakenCounts::Transparent(used);
     }
-    Marked::Refused(Code::Unsound, node::NIL)
+    TakenCounts::Refused(Code::Unsound, node::NIL)
 }
 
 // Whether the record and all used slots are sound.
@@ -110,7 +118,7 @@ pub fn well_formed(
     firsts: &[u32],
     rests: &[u32],
 ) -> bool
-    ensures { λ r. ⌜ r ≡ wellFormed a (lists (now (bytes .entry)) (atomSlots (now (starts .entry)) (now (ends .entry))) (pairSlots (now (firsts .entry)) (now (rests .entry)))) ⌝ }
+    ensures { λ r. ⌜ r ≡ wellFormed a (listsIn (bytes .entry) (starts .entry) (ends .entry) (firsts .entry) (rests .entry)) ⌝ }
 {
     let used = a.used;
     if sound::lists_sound(

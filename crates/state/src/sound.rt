@@ -8,7 +8,9 @@ ghost use Prim.Native.Nat.{_+_, _≤_, min};
 ghost use lib.Dec.{leb};
 ghost use lib.ListN.{length};
 ghost use Rattle.rules.specs.Node.{validNode};
-ghost use Rattle.rules.specs.State.{limitsSound, atomsFit, pairsFit, bytesFit, rangeSound, childrenSound, atomSlots, pairSlots, atomSlotsSound, pairSlotsSound};
+ghost use Rattle.rules.specs.State.{limitsSound, atomsSoundAt, pairsSoundAt, slotsSoundAt, bytesSoundAt, listsSoundAt, rangeSound, childrenSound};
+ghost use Rattle.rules.specs.State.{atomSlotsSound, pairSlotsSound};
+ghost use Rattle.rules.specs.Lent.{atomSlotsIn, pairSlotsIn};
 
 // The most atoms, and the most pairs, that there may be.
 pub const MOST: usize = 62500000;
@@ -44,7 +46,7 @@ pub fn limits_sound(a: Allocator) -> bool
 }
 
 // Whether n entries fit two slices of these lengths.
-fn fit(n: usize, one: usize, other: usize) -> bool
+pub fn fit(n: usize, one: usize, other: usize) -> bool
     ensures { λ r. ⌜ r ≡ (leb n one && leb n other) ⌝ }
 {
     if one < n {
@@ -55,7 +57,7 @@ fn fit(n: usize, one: usize, other: usize) -> bool
 
 // Whether the record is sound beside atom slots of these lengths.
 pub fn atoms_sound(a: Allocator, starts: usize, ends: usize) -> bool
-    ensures { λ r. ⌜ r ≡ (limitsSound a && atomsFit a starts ends) ⌝ }
+    ensures { λ r. ⌜ r ≡ atomsSoundAt a starts ends ⌝ }
 {
     if limits_sound(a) {
         return fit(a.used.atoms, starts, ends);
@@ -65,7 +67,7 @@ pub fn atoms_sound(a: Allocator, starts: usize, ends: usize) -> bool
 
 // Whether the record is sound beside pair slots of these lengths.
 pub fn pairs_sound(a: Allocator, firsts: usize, rests: usize) -> bool
-    ensures { λ r. ⌜ r ≡ (limitsSound a && pairsFit a firsts rests) ⌝ }
+    ensures { λ r. ⌜ r ≡ pairsSoundAt a firsts rests ⌝ }
 {
     if limits_sound(a) {
         return fit(a.used.pairs, firsts, rests);
@@ -75,7 +77,7 @@ pub fn pairs_sound(a: Allocator, firsts: usize, rests: usize) -> bool
 
 // Whether the record is sound beside atom and pair slots of these lengths.
 pub fn slots_sound(a: Allocator, starts: usize, ends: usize, firsts: usize, rests: usize) -> bool
-    ensures { λ r. ⌜ r ≡ (limitsSound a && atomsFit a starts ends && pairsFit a firsts rests) ⌝ }
+    ensures { λ r. ⌜ r ≡ slotsSoundAt a starts ends firsts rests ⌝ }
 {
     if atoms_sound(a, starts, ends) {
         return fit(a.used.pairs, firsts, rests);
@@ -84,8 +86,8 @@ pub fn slots_sound(a: Allocator, starts: usize, ends: usize, firsts: usize, rest
 }
 
 // Whether the record is sound beside bytes and atom slots of these lengths.
-pub fn store_sound(a: Allocator, bytes: usize, starts: usize, ends: usize) -> bool
-    ensures { λ r. ⌜ r ≡ (limitsSound a && atomsFit a starts ends && bytesFit a bytes) ⌝ }
+pub fn bytes_sound(a: Allocator, bytes: usize, starts: usize, ends: usize) -> bool
+    ensures { λ r. ⌜ r ≡ bytesSoundAt a bytes starts ends ⌝ }
 {
     if atoms_sound(a, starts, ends) {
         return a.used.bytes <= bytes;
@@ -102,7 +104,7 @@ pub fn lists_sound(
     firsts: usize,
     rests: usize,
 ) -> bool
-    ensures { λ r. ⌜ r ≡ (limitsSound a && atomsFit a starts ends && pairsFit a firsts rests && bytesFit a bytes) ⌝ }
+    ensures { λ r. ⌜ r ≡ listsSoundAt a bytes starts ends firsts rests ⌝ }
 {
     if slots_sound(a, starts, ends, firsts, rests) {
         return a.used.bytes <= bytes;
@@ -146,7 +148,7 @@ pub fn children_sound(first: u32, rest: u32, atoms: usize, i: usize) -> bool
 // Whether the first atom slots lie within the first bytes, both as used says.
 pub fn atom_slots_sound(used: Counts, starts: &[u32], ends: &[u32]) -> bool
     requires { ⌜ (used .atoms ≤ length (now starts)) × (used .atoms ≤ length (now ends)) ⌝ }
-    ensures { λ r. ⌜ r ≡ atomSlotsSound used (atomSlots (now (starts .entry)) (now (ends .entry))) ⌝ }
+    ensures { λ r. ⌜ r ≡ atomSlotsSound used (atomSlotsIn (starts .entry) (ends .entry)) ⌝ }
 {
     let count = used.atoms;
     let bytes = used.bytes;
@@ -164,7 +166,7 @@ pub fn atom_slots_sound(used: Counts, starts: &[u32], ends: &[u32]) -> bool
 // Whether the first pair slots have their children among the atoms that used says and the pairs before them.
 pub fn pair_slots_sound(used: Counts, firsts: &[u32], rests: &[u32]) -> bool
     requires { ⌜ (used .pairs ≤ length (now firsts)) × (used .pairs ≤ length (now rests)) ⌝ }
-    ensures { λ r. ⌜ r ≡ pairSlotsSound used (pairSlots (now (firsts .entry)) (now (rests .entry))) ⌝ }
+    ensures { λ r. ⌜ r ≡ pairSlotsSound used (pairSlotsIn (firsts .entry) (rests .entry)) ⌝ }
 {
     let count = used.pairs;
     let atoms = used.atoms;

@@ -1,6 +1,5 @@
 // Rows as text, put into a lent buffer from an index on (document 01, "The request program").
 ghost use mathlib.Core.Path.{_≡_};
-ghost use mathlib.Core.List.{_++_, _∷_, []};
 ghost use Prim.Native.Nat.{_+_, _≤_};
 ghost use lib.ListN.{length};
 ghost use Rattle.text.specs.Text.{Put, rowText, shownText, numberText, endText, headText, longText};

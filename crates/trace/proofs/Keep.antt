@@ -15,14 +15,12 @@ use Rattle.rules.specs.declared.Checkpoint.{Checkpoint}
 use Rattle.rules.specs.Small.{Octets}
 use Rattle.rules.specs.Said.{Said, says, refuses, Done, done}
 use Rattle.rules.specs.State.{Lists}
-use Rattle.rules.specs.Reads.{checkpoint}
-use Rattle.rules.specs.Creates as C
-use Rattle.rules.specs.Restores as R
+use Rattle.rules.specs.Record.{checkpoint}
 use Rattle.rules.specs.Restores.{Restoring, noReplace, replace, aborted, savings}
 use Rattle.rules.proofs.Tests.{choice}
 use Rattle.rules.proofs.Limits.{Limits}
-use Rattle.runs.specs.State.{St, Whole, Making, make, plainTo, transparentTo, maybeTo}
-use Rattle.runs.specs.State as S
+use Rattle.rules.specs.Whole.{St, Whole, Making, make, newAtom, newSmallNumber, newPair, newSubstr, newConcat, addGhostPair, removeGhostPair, addGhostAtom, plainTo, transparentTo, maybeTo}
+use Rattle.rules.specs.Whole as S
 use Rattle.runs.specs.Wf.{WF, Sound}
 use Rattle.runs.specs.Makes.{Outcome, refused, accepted}
 use Rattle.runs.proofs.Every.{make-on}
@@ -37,9 +35,9 @@ use Rattle.text.specs.declared.Shown.the-variants as shown
 use Rattle.trace.specs.Bytes.{u16At, u32At, u64At}
 use Rattle.trace.specs.Request as Q
 use Rattle.trace.specs.Request.{Request, sized, laterOf, requestOf, frameOf, requestIn, requestAt, frameSize}
-use Rattle.trace.specs.Machine.{withMark, didOf, didMake, didChange, didTake, didRestore, didMaybe, Acted, acted, storeOf, markAt, numbered, actOf}
+use Rattle.trace.specs.Machine.{withCheckpoint, didOf, didMake, didChange, didTake, didRestore, didMaybe, Acted, acted, stateOf, shows, checkpointAt, numbered, actOf}
 use Rattle.trace.specs.Step.{withRow, stepOn}
-use Rattle.trace.specs.Sane.{Sane, Ready, stateOf}
+use Rattle.trace.specs.Sane.{Sane, Ready}
 
 -- ---- a part of a list of bytes is one
 
@@ -62,15 +60,15 @@ limits-of a l s = record { bytes = s .bytes-most; limit = s .limit-most; atoms =
 
 pub record Kept (m : Machine) (x : Acted) : Type 0 where
   pub formed : WF (stateOf (x .did .machine) (x .left))
-  pub marks-taken : x .did .machine .taken ≤ 32
+  pub checkpoints-taken : x .did .machine .taken ≤ 32
   pub rows-shown : x .did .machine .shown ≡ m .shown
   pub released-most : x .did .machine .released ≤ m .shown * 8589934592 + 8589934592
 
 module _ (m : Machine) (h : Sane m) where
   -- the machine as it was, beside another state
   still : (a : Allocator) (l : Lists) → WF (record { rec = a; lists = l }) → (code : ℕ) (node : Shown)
-      → Kept m (acted (didOf (record { state = a; shown = m .shown; released = m .released; taken = m .taken; marks = m .marks }) code node) l)
-  still a l w code node = record { formed = w; marks-taken = h .marks-taken; rows-shown = refl; released-most = omega (arith, h .released-most) }
+      → Kept m (acted (didOf (record { state = a; shown = m .shown; released = m .released; taken = m .taken; checkpoints = m .checkpoints }) code node) l)
+  still a l w code node = record { formed = w; checkpoints-taken = h .checkpoints-taken; rows-shown = refl; released-most = omega (arith, h .released-most) }
 
   made-kept : (r : Said ℕ) (a : Allocator) (l : Lists) → WF (record { rec = a; lists = l }) → Kept m (acted (didMake m r a) l)
   made-kept (says n) a l w = still a l w 0 (shown.Node n)
@@ -85,8 +83,8 @@ module _ (m : Machine) (h : Sane m) where
   saved-most k = let l = h .limits in omega arith
 
   released-kept : (k : Counts) (a : Allocator) (l : Lists) → WF (record { rec = a; lists = l }) → (node : Shown)
-      → Kept m (acted (didOf (record { state = a; shown = m .shown; released = m .released + savings k (m .state); taken = m .taken; marks = m .marks }) 0 node) l)
-  released-kept k a l w node = record { formed = w; marks-taken = h .marks-taken; rows-shown = refl; released-most = omega (arith, h .released-most, saved-most k) }
+      → Kept m (acted (didOf (record { state = a; shown = m .shown; released = m .released + savings k (m .state); taken = m .taken; checkpoints = m .checkpoints }) 0 node) l)
+  released-kept k a l w node = record { formed = w; checkpoints-taken = h .checkpoints-taken; rows-shown = refl; released-most = omega (arith, h .released-most, saved-most k) }
 
   restored-kept : (k : Counts) (r : Said Done) (a : Allocator) (l : Lists) → WF (record { rec = a; lists = l }) → Kept m (acted (didRestore m k r a) l)
   restored-kept k (says done) a l w = released-kept k a l w shown.Nothing
@@ -103,8 +101,8 @@ module _ (m : Machine) (h : Sane m) where
       choice (λ (d : Did). Kept m (acted d l)) (ltb (m .taken) 32) _ _
       (λ t. more (ltb-true _ _ t)) (λ t. still (m .state) l w 15 _)
     where
-      more : m .taken < 32 → Kept m (acted (didOf (withMark m k) 0 shown.Nothing) l)
-      more t = record { formed = w; marks-taken = omega arith; rows-shown = refl; released-most = omega (arith, h .released-most) }
+      more : m .taken < 32 → Kept m (acted (didOf (withCheckpoint m k) 0 shown.Nothing) l)
+      more t = record { formed = w; checkpoints-taken = omega arith; rows-shown = refl; released-most = omega (arith, h .released-most) }
   taken-kept l w (refuses code n) = still (m .state) l w code (shown.Node n)
 
 -- ---- every request
@@ -116,7 +114,7 @@ Fine (Q.pair first rest) = 0 ≤ 0
 Fine (Q.substr n start end) = 0 ≤ 0
 Fine (Q.concat size ns) = 0 ≤ 0
 Fine (Q.smallNumber v) = 0 ≤ 0
-Fine Q.takeMark = 0 ≤ 0
+Fine Q.takeCheckpoint = 0 ≤ 0
 Fine (Q.restore i) = 0 ≤ 0
 Fine (Q.restoreTransparent i) = 0 ≤ 0
 Fine (Q.maybeRestore i n) = 0 ≤ 0
@@ -146,28 +144,34 @@ module _ (m : Machine) (l : Lists) (h : Ready m l) where
   numbered-kept : (i : ℕ) (x : Acted) → Kept m x → Kept m (numbered m i l x)
   numbered-kept i x k = choice (Kept m) (ltb i (m .taken)) _ _ (λ t. k) (λ t. still m (h .sane) (m .state) l (h .formed) _ _)
 
+  abbrev s : St
+  s = stateOf m l
+
+  make-kept : (o : Whole ℕ) → WF (o .next) → Kept m (shows (didMake m) o)
+  make-kept o w = made-kept m (h .sane) (o .said) (o .next .rec) _ w
+
+  change-kept : (o : Whole Done) → WF (o .next) → Kept m (shows (didChange m) o)
+  change-kept o w = changed-kept m (h .sane) (o .said) (o .next .rec) _ w
+
+  back-kept : (k : Counts) (o : Whole Done) → WF (o .next) → Kept m (shows (didRestore m k) o)
+  back-kept k o w = restored-kept m (h .sane) k (o .said) (o .next .rec) _ w
+
   act-kept : (r : Request) → Fine r → Kept m (actOf m l r)
-  act-kept (Q.atom v) f = let o = C.newAtom (m .state) v (storeOf l) in made-kept m (h .sane) (o .said) (o .rec) _ (made-by (S.atom v f))
-  act-kept (Q.pair first rest) f = let o = C.newPair (m .state) first rest (l .pairs) in made-kept m (h .sane) (o .said) (o .rec) _ (made-by (S.pair first rest))
-  act-kept (Q.substr n start end) f = let o = C.newSubstr (m .state) n start end (storeOf l) in made-kept m (h .sane) (o .said) (o .rec) _ (made-by (S.substr n start end))
-  act-kept (Q.concat size ns) f = let o = C.newConcat (m .state) size ns (storeOf l) in made-kept m (h .sane) (o .said) (o .rec) _ (made-by (S.concat size ns))
-  act-kept (Q.smallNumber v) f = let o = C.newSmallNumber (m .state) v in made-kept m (h .sane) (o .said) (o .rec) _ (made-by (S.small-number v))
-  act-kept Q.takeMark f = taken-kept m (h .sane) l (h .formed) (checkpoint (m .state))
-  act-kept (Q.restore i) f =
-      let k = markAt m i in
-      let o = R.restorePlain k (m .state) (l .atoms) (l .pairs) in
-      numbered-kept i _ (restored-kept m (h .sane) (k .used) (o .said) (o .rec) _ (plain-by k))
-  act-kept (Q.restoreTransparent i) f =
-      let k = markAt m i .used in
-      let o = R.restoreTransparent k (m .state) (l .atoms) (l .pairs) in
-      numbered-kept i _ (restored-kept m (h .sane) k (o .said) (o .rec) _ (transparent-by k))
+  act-kept (Q.atom v) f = make-kept (newAtom v s) (made-by (S.atom v f))
+  act-kept (Q.pair first rest) f = make-kept (newPair first rest s) (made-by (S.pair first rest))
+  act-kept (Q.substr n start end) f = make-kept (newSubstr n start end s) (made-by (S.substr n start end))
+  act-kept (Q.concat size ns) f = make-kept (newConcat size ns s) (made-by (S.concat size ns))
+  act-kept (Q.smallNumber v) f = make-kept (newSmallNumber v s) (made-by (S.small-number v))
+  act-kept Q.takeCheckpoint f = taken-kept m (h .sane) l (h .formed) (checkpoint (m .state))
+  act-kept (Q.restore i) f = numbered-kept i _ (back-kept (checkpointAt m i .used) (plainTo (checkpointAt m i) s) (plain-by (checkpointAt m i)))
+  act-kept (Q.restoreTransparent i) f = let k = checkpointAt m i .used in numbered-kept i _ (back-kept k (transparentTo k s) (transparent-by k))
   act-kept (Q.maybeRestore i n) f =
-      let k = markAt m i .used in
-      let o = R.maybeRestore k n (m .state) (storeOf l) (l .pairs) in
-      numbered-kept i _ (maybe-kept m (h .sane) k n (o .said) (o .rec) _ (maybe-by k n))
-  act-kept (Q.addGhostPair amount) f = let o = C.addGhostPair (m .state) amount in changed-kept m (h .sane) (o .said) (o .rec) _ (made-by (S.ghost-pairs amount))
-  act-kept (Q.removeGhostPair amount) f = let o = C.removeGhostPair (m .state) amount in changed-kept m (h .sane) (o .said) (o .rec) _ (made-by (S.fewer-ghost-pairs amount))
-  act-kept (Q.addGhostAtom amount) f = let o = C.addGhostAtom (m .state) amount in changed-kept m (h .sane) (o .said) (o .rec) _ (made-by (S.ghost-atoms amount))
+      let k = checkpointAt m i .used in
+      let o = maybeTo k n s in
+      numbered-kept i _ (maybe-kept m (h .sane) k n (o .said) (o .next .rec) _ (maybe-by k n))
+  act-kept (Q.addGhostPair amount) f = change-kept (addGhostPair amount s) (made-by (S.ghost-pairs amount))
+  act-kept (Q.removeGhostPair amount) f = change-kept (removeGhostPair amount s) (made-by (S.fewer-ghost-pairs amount))
+  act-kept (Q.addGhostAtom amount) f = change-kept (addGhostAtom amount s) (made-by (S.ghost-atoms amount))
   act-kept Q.bad f = still m (h .sane) (m .state) l (h .formed) 16 shown.Nothing
 
 -- ---- a request out of bytes
@@ -193,7 +197,7 @@ request-fine kind p o =
     choice Fine (eqb kind 3) _ _ (λ e. size-fine p 12 (Q.substr (u32At p 0) (u32At p 4) (u32At p 8)) (omega arith)) λ e.
     choice Fine (eqb kind 4) _ _ (λ e. choice Fine (leb 8 (length p) && eqb ((length p - 8) % 4) 0) _ _ (λ t. omega arith) (λ t. omega arith)) λ e.
     choice Fine (eqb kind 5) _ _ (λ e. size-fine p 4 (Q.smallNumber (u32At p 0)) (omega arith)) λ e.
-    choice Fine (eqb kind 6) _ _ (λ e. size-fine p 0 Q.takeMark (omega arith)) λ e. later-fine kind p
+    choice Fine (eqb kind 6) _ _ (λ e. size-fine p 0 Q.takeCheckpoint (omega arith)) λ e. later-fine kind p
 
 pub kind-kept : (m : Machine) (l : Lists) → Ready m l → (kind : ℕ) (p : List ℕ) → Octets p → Kept m (actOf m l (requestOf kind p))
 kind-kept m l h kind p o = act-kept m l h (requestOf kind p) (request-fine kind p o)
@@ -213,7 +217,7 @@ counted-ready m x h k = record {
   formed = k .formed;
   sane = record {
     limits = limits-of (x .did .machine .state) (x .left) (k .formed .sound);
-    marks-taken = k .marks-taken;
+    checkpoints-taken = k .checkpoints-taken;
     rows-shown = omega (arith, k .rows-shown);
     released-most = omega (arith, k .rows-shown, k .released-most);
   };

@@ -10,13 +10,13 @@ use lib.Seq.{length-take-le}
 use borrow.Author.Tests.{le-leb, lt-leb}
 use Rattle.rules.specs.Small.{Octets}
 use Rattle.rules.specs.State.{Lists}
-use Rattle.rules.specs.Creates.{fresh}
+use Rattle.rules.specs.Record.{fresh}
 use Rattle.runs.specs.Wf.{WF}
 use Rattle.text.specs.Text.{Put, headText, longText}
 use Rattle.trace.specs.declared.machine.Machine.{Machine}
 use Rattle.trace.specs.declared.rows.Ran.{Ran}
 use Rattle.trace.specs.Machine.{freshMachine}
-use Rattle.trace.specs.Sane.{Ready, stateOf}
+use Rattle.trace.specs.Sane.{Ready}
 use Rattle.trace.specs.Trace.{traceOf, textOf}
 use Rattle.trace.specs.Run.{leftOf, Full, RanFrom, joined, Pieces, last, more}
 
@@ -42,7 +42,7 @@ fresh-ready l o = record {
   };
   sane = record {
     limits = record { bytes = omega arith; limit = omega arith; atoms = omega arith; pairs = omega arith; heap = omega arith };
-    marks-taken = omega arith;
+    checkpoints-taken = omega arith;
     rows-shown = omega arith;
     released-most = omega arith;
   };
@@ -87,24 +87,6 @@ pub whole-pieces : (l : Lists) (i old first : List ℕ) (cs : List (List ℕ)) �
     → Pieces i freshMachine l first 0 29 cs → joined cs ≡ textOf l i
 whole-pieces l i old first cs h p k =
     pieces-text k ∙ ap (λ (x : List ℕ). x ++ traceOf freshMachine l i) (p .text) ∙ sym (text-short l i h)
-
--- ---- all in one piece
-
--- a buffer that holds a row for each 4 bytes is never full
-pub never-full : (l l′ : Lists) (i old new : List ℕ) (r : Ran) → RanFrom freshMachine l i old 0 29 l′ new r
-    → 201 + 126 * (length i / 4) ≤ length old → (b : Bool) → r .done ≡ b → r .done ≡ true
-never-full l l′ i old new r d h true e = e
-never-full l l′ i old new r d h false e = let f = d .full e in absurd (omega (arith, f .stops, f .rows, f .counts, d .within))
-
-pub whole-text : (l l′ : Lists) (i old first new : List ℕ) (m : Machine) (w : ℕ) (r : Ran) → m ≡ freshMachine → w ≡ 29
-    → Put old first 0 w headText → RanFrom m l i first 0 w l′ new r
-    → length i ≤ 65536 → 201 + 126 * (length i / 4) ≤ length first → take (r .wrote) new ≡ textOf l i
-unfolding joined
-whole-text l l′ i old first new m w r e n p d h b =
-    let q = subst (λ (x : ℕ). Put old first 0 x headText) n p in
-    let k = subst (λ (x : ℕ). RanFrom freshMachine l i first 0 x l′ new r) n (subst (λ (x : Machine). RanFrom x l i first 0 w l′ new r) e d) in
-    sym (append-nil (take (r .wrote) new))
-    ∙ whole-pieces l i old first (take (r .wrote) new ∷ []) h q (last k (never-full l l′ i first new r k b (r .done) refl))
 
 -- ---- piece by piece
 

@@ -8,12 +8,11 @@ use Rattle.rules.specs.declared.Counts.{Counts}
 use Rattle.rules.specs.declared.Allocator.{Allocator}
 use Rattle.rules.specs.declared.Checkpoint.{Checkpoint}
 use Rattle.rules.specs.Node.{nil}
-use Rattle.rules.specs.Said.{Said, says, refuses, Done, done, NoLists, Out}
-use Rattle.rules.specs.State.{Store, store, PairSlots, Lists, lists, counts}
-use Rattle.rules.specs.Reads.{checkpoint}
-use Rattle.rules.specs.Creates as C
-use Rattle.rules.specs.Restores as R
+use Rattle.rules.specs.Said.{Said, says, refuses, Done, done}
+use Rattle.rules.specs.State.{Lists, counts}
+use Rattle.rules.specs.Record.{fresh, checkpoint}
 use Rattle.rules.specs.Restores.{Restoring, noReplace, replace, aborted, savings}
+use Rattle.rules.specs.Whole.{St, Whole, newAtom, newSmallNumber, newPair, newSubstr, newConcat, addGhostPair, removeGhostPair, addGhostAtom, plainTo, transparentTo, maybeTo}
 use Rattle.text.specs.declared.Shown.{Shown}
 use Rattle.text.specs.declared.Shown.the-variants.{Node, Nothing}
 use Rattle.trace.specs.declared.machine.Machine.{Machine}
@@ -24,24 +23,24 @@ use Rattle.trace.specs.Request.{Request}
 -- ---- the machine
 
 -- an empty place among the checkpoints
-abbrev pub noMark : Checkpoint
-noMark = record { used = counts 0 0 0; ghosts = counts 0 0 0 }
+abbrev pub noCheckpoint : Checkpoint
+noCheckpoint = record { used = counts 0 0 0; ghosts = counts 0 0 0 }
 
 -- limit 4,294,967,295; ghosts 2, 0, 1; no row shown, nothing released, no checkpoint taken
 abbrev pub freshMachine : Machine
-freshMachine = record { state = C.fresh 4294967295; shown = 0; released = 0; taken = 0; marks = replicate 32 noMark }
+freshMachine = record { state = fresh 4294967295; shown = 0; released = 0; taken = 0; checkpoints = replicate 32 noCheckpoint }
 
 abbrev pub withState : Machine → Allocator → Machine
-withState m a = record { state = a; shown = m .shown; released = m .released; taken = m .taken; marks = m .marks }
+withState m a = record { state = a; shown = m .shown; released = m .released; taken = m .taken; checkpoints = m .checkpoints }
 
 -- one checkpoint more; its number is how many there were
-abbrev pub withMark : Machine → Checkpoint → Machine
-withMark m k = record {
+abbrev pub withCheckpoint : Machine → Checkpoint → Machine
+withCheckpoint m k = record {
   state = m .state;
   shown = m .shown;
   released = m .released;
   taken = m .taken + 1;
-  marks = set (m .marks) (m .taken) k;
+  checkpoints = set (m .checkpoints) (m .taken) k;
 }
 
 -- an accepted restore to k, which left the record a: the savings figure is released
@@ -51,12 +50,12 @@ withRestored m k a = record {
   shown = m .shown;
   released = m .released + savings k (m .state);
   taken = m .taken;
-  marks = m .marks;
+  checkpoints = m .checkpoints;
 }
 
 -- the checkpoint of a number
-abbrev pub markAt : Machine → ℕ → Checkpoint
-markAt m i = getD (m .marks) i noMark
+abbrev pub checkpointAt : Machine → ℕ → Checkpoint
+checkpointAt m i = getD (m .checkpoints) i noCheckpoint
 
 -- ---- the row's code and node
 
@@ -79,7 +78,7 @@ didChange m (refuses code node) a = didOf (withState m a) code (Node node)
 
 -- a checkpoint taken shows `-`; the 33rd is refused with 15
 abbrev pub didTake : Machine → Said Checkpoint → Did
-didTake m (says k) = cond (ltb (m .taken) 32) (didOf (withMark m k) 0 Nothing) (didOf m 15 (Node nil))
+didTake m (says k) = cond (ltb (m .taken) 32) (didOf (withCheckpoint m k) 0 Nothing) (didOf m 15 (Node nil))
 didTake m (refuses code node) = didOf m code (Node node)
 
 -- a plain or transparent restore to k shows `-`
@@ -103,18 +102,13 @@ pub record Acted : Type 0 where
 abbrev pub acted : Did → Lists → Acted
 acted d l = record { did = d; left = l }
 
-abbrev pub storeOf : Lists → Store
-storeOf l = store (l .bytes) (l .atoms)
+-- the machine's record beside all five lists
+abbrev pub stateOf : Machine → Lists → St
+stateOf m l = record { rec = m .state; lists = l }
 
--- a call that may write the bytes and the atom slots, the pair slots, or nothing; f says what its answer shows
-abbrev pub onStore : {A : Type 0} → (Said A → Allocator → Did) → Lists → Out A Store → Acted
-onStore f l o = acted (f (o .said) (o .rec)) (lists (o .lent .bytes) (o .lent .atoms) (l .pairs))
-
-abbrev pub onPairs : {A : Type 0} → (Said A → Allocator → Did) → Lists → Out A PairSlots → Acted
-onPairs f l o = acted (f (o .said) (o .rec)) (lists (l .bytes) (l .atoms) (o .lent))
-
-abbrev pub alone : {A : Type 0} → (Said A → Allocator → Did) → Lists → Out A NoLists → Acted
-alone f l o = acted (f (o .said) (o .rec)) l
+-- what a call did to that state; f says what its answer shows
+abbrev pub shows : {A : Type 0} → (Said A → Allocator → Did) → Whole A → Acted
+shows f o = acted (f (o .said) (o .next .rec)) (o .next .lists)
 
 -- an untaken number gives 11, before any look at the node
 abbrev pub numbered : Machine → ℕ → Lists → Acted → Acted
@@ -123,22 +117,19 @@ numbered m i l next = cond (ltb i (m .taken)) next (acted (didOf m 11 (Node nil)
 -- ---- the twelve kinds
 
 abbrev pub actOf : Machine → Lists → Request → Acted
-actOf m l (Q.atom v) = onStore (didMake m) l (C.newAtom (m .state) v (storeOf l))
-actOf m l (Q.pair first rest) = onPairs (didMake m) l (C.newPair (m .state) first rest (l .pairs))
-actOf m l (Q.substr n start end) = onStore (didMake m) l (C.newSubstr (m .state) n start end (storeOf l))
-actOf m l (Q.concat size ns) = onStore (didMake m) l (C.newConcat (m .state) size ns (storeOf l))
-actOf m l (Q.smallNumber v) = alone (didMake m) l (C.newSmallNumber (m .state) v)
-actOf m l Q.takeMark = acted (didTake m (checkpoint (m .state))) l
+actOf m l (Q.atom v) = shows (didMake m) (newAtom v (stateOf m l))
+actOf m l (Q.pair first rest) = shows (didMake m) (newPair first rest (stateOf m l))
+actOf m l (Q.substr n start end) = shows (didMake m) (newSubstr n start end (stateOf m l))
+actOf m l (Q.concat size ns) = shows (didMake m) (newConcat size ns (stateOf m l))
+actOf m l (Q.smallNumber v) = shows (didMake m) (newSmallNumber v (stateOf m l))
+actOf m l Q.takeCheckpoint = acted (didTake m (checkpoint (m .state))) l
 actOf m l (Q.restore i) =
-    numbered m i l
-    (alone (didRestore m (markAt m i .used)) l (R.restorePlain (markAt m i) (m .state) (l .atoms) (l .pairs)))
+    numbered m i l (shows (didRestore m (checkpointAt m i .used)) (plainTo (checkpointAt m i) (stateOf m l)))
 actOf m l (Q.restoreTransparent i) =
-    numbered m i l
-    (alone (didRestore m (markAt m i .used)) l (R.restoreTransparent (markAt m i .used) (m .state) (l .atoms) (l .pairs)))
+    numbered m i l (shows (didRestore m (checkpointAt m i .used)) (transparentTo (checkpointAt m i .used) (stateOf m l)))
 actOf m l (Q.maybeRestore i n) =
-    numbered m i l
-    (onStore (didMaybe m (markAt m i .used) n) l (R.maybeRestore (markAt m i .used) n (m .state) (storeOf l) (l .pairs)))
-actOf m l (Q.addGhostPair amount) = alone (didChange m) l (C.addGhostPair (m .state) amount)
-actOf m l (Q.removeGhostPair amount) = alone (didChange m) l (C.removeGhostPair (m .state) amount)
-actOf m l (Q.addGhostAtom amount) = alone (didChange m) l (C.addGhostAtom (m .state) amount)
+    numbered m i l (shows (didMaybe m (checkpointAt m i .used) n) (maybeTo (checkpointAt m i .used) n (stateOf m l)))
+actOf m l (Q.addGhostPair amount) = shows (didChange m) (addGhostPair amount (stateOf m l))
+actOf m l (Q.removeGhostPair amount) = shows (didChange m) (removeGhostPair amount (stateOf m l))
+actOf m l (Q.addGhostAtom amount) = shows (didChange m) (addGhostAtom amount (stateOf m l))
 actOf m l Q.bad = acted (didBad m) l

@@ -15,7 +15,7 @@ pub data Request : Type 0 where
   substr : (node start end : ℕ) → Request
   concat : (size : ℕ) → List ℕ → Request
   smallNumber : ℕ → Request
-  takeMark : Request
+  takeCheckpoint : Request
   restore : (number : ℕ) → Request
   restoreTransparent : (number : ℕ) → Request
   maybeRestore : (number node : ℕ) → Request
@@ -51,7 +51,7 @@ requestOf kind p =
     (cond (eqb kind 3) (sized 12 p (substr (u32At p 0) (u32At p 4) (u32At p 8)))
     (cond (eqb kind 4) (listed p (concat (u64At p 0) (u32s (drop 8 p))))
     (cond (eqb kind 5) (sized 4 p (smallNumber (u32At p 0)))
-    (cond (eqb kind 6) (sized 0 p takeMark)
+    (cond (eqb kind 6) (sized 0 p takeCheckpoint)
     (laterOf kind p))))))
 
 -- ---- the frame: u16 payload length, u16 kind, payload

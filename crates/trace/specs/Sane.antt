@@ -2,19 +2,16 @@
 use Prim.Native.Nat.{ℕ, _*_, _≤_}
 use Rattle.rules.specs.State.{Lists}
 use Rattle.rules.proofs.Limits.{Limits}
-use Rattle.runs.specs.State.{St}
 use Rattle.runs.specs.Wf.{WF}
 use Rattle.trace.specs.declared.machine.Machine.{Machine}
+use Rattle.trace.specs.Machine.{stateOf}
 
 -- a sound record; one restore releases less than 2^33, and there are fewer than 2^29 records
 pub record Sane (m : Machine) : Type 0 where
   pub limits : Limits (m .state)
-  pub marks-taken : m .taken ≤ 32
+  pub checkpoints-taken : m .taken ≤ 32
   pub rows-shown : m .shown ≤ 536870912
   pub released-most : m .released ≤ m .shown * 8589934592
-
-abbrev pub stateOf : Machine → Lists → St
-stateOf m l = record { rec = m .state; lists = l }
 
 -- beside the lists: the state is well-formed
 pub record Ready (m : Machine) (l : Lists) : Type 0 where

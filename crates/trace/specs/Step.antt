@@ -24,7 +24,7 @@ rowOf d n = record {
 
 -- one row more is shown
 abbrev pub withRow : Machine → Machine
-withRow m = record { state = m .state; shown = m .shown + 1; released = m .released; taken = m .taken; marks = m .marks }
+withRow m = record { state = m .state; shown = m .shown + 1; released = m .released; taken = m .taken; checkpoints = m .checkpoints }
 
 -- 16 ends the run: the record then takes no bytes
 abbrev pub closed : Did → ℕ → Step

@@ -7,7 +7,8 @@ ghost use mathlib.Core.Path.{_≡_};
 ghost use mathlib.Core.List.{List};
 ghost use Prim.Native.Nat.{ℕ, _<_};
 ghost use lib.ListN.{length, drop};
-ghost use Rattle.rules.specs.State.{AtomSlots, PairSlots, Lists, atomSlots, pairSlots, lists};
+ghost use Rattle.rules.specs.State.{AtomSlots, PairSlots, Lists, lists};
+ghost use Rattle.rules.specs.Lent.{atomSlotsIn, pairSlotsIn};
 ghost use Rattle.trace.specs.Bytes.{u32At, u64At, u32s};
 ghost use Rattle.trace.specs.Request as Q;
 ghost use Rattle.trace.specs.Request.{sized, listed};
@@ -16,7 +17,8 @@ ghost use Rattle.trace.specs.Sane.{Sane};
 
 // Kind 1: the bytes of a new atom.
 pub fn atom(m: Machine, bytes: &mut [u8], starts: &mut [u32], ends: &mut [u32], p: &[u8]) -> Did
-    ensures { λ r. ⌜ ((q : PairSlots) → acted r (lists (now (bytes .exit)) (atomSlots (now (starts .exit)) (now (ends .exit))) q) ≡ actOf m (lists (now (bytes .entry)) (atomSlots (now (starts .entry)) (now (ends .entry))) q) (Q.atom (now (p .entry)))) ⌝ }
+    ensures { λ r. ⌜ ((q : PairSlots) → acted r (lists (now (bytes .exit)) (atomSlotsIn (starts .exit) (ends .exit)) q)
+        ≡ actOf m (lists (now (bytes .entry)) (atomSlotsIn (starts .entry) (ends .entry)) q) (Q.atom (now (p .entry)))) ⌝ }
 {
     let a = m.state;
     let made = creates::atom::new_atom(a, bytes, starts, ends, p);
@@ -25,7 +27,9 @@ pub fn atom(m: Machine, bytes: &mut [u8], starts: &mut [u32], ends: &mut [u32], 
 
 // Kind 2: two u32, first and rest.
 pub fn pair(m: Machine, firsts: &mut [u32], rests: &mut [u32], p: &[u8]) -> Did
-    ensures { λ r. ⌜ ((b : List ℕ) (t : AtomSlots) → acted r (lists b t (pairSlots (now (firsts .exit)) (now (rests .exit)))) ≡ actOf m (lists b t (pairSlots (now (firsts .entry)) (now (rests .entry)))) (sized 8 (now (p .entry)) (Q.pair (u32At (now (p .entry)) 0) (u32At (now (p .entry)) 4)))) ⌝ }
+    ensures { λ r. ⌜ ((b : List ℕ) (t : AtomSlots) → acted r (lists b t (pairSlotsIn (firsts .exit) (rests .exit)))
+        ≡ actOf m (lists b t (pairSlotsIn (firsts .entry) (rests .entry)))
+        (sized 8 (now (p .entry)) (Q.pair (u32At (now (p .entry)) 0) (u32At (now (p .entry)) 4)))) ⌝ }
 {
     if p.len() != 8 {
         return machine::bad(m);
@@ -39,7 +43,9 @@ pub fn pair(m: Machine, firsts: &mut [u32], rests: &mut [u32], p: &[u8]) -> Did
 
 // Kind 3: three u32, node, start and end.
 pub fn substr(m: Machine, bytes: &mut [u8], starts: &mut [u32], ends: &mut [u32], p: &[u8]) -> Did
-    ensures { λ r. ⌜ ((q : PairSlots) → acted r (lists (now (bytes .exit)) (atomSlots (now (starts .exit)) (now (ends .exit))) q) ≡ actOf m (lists (now (bytes .entry)) (atomSlots (now (starts .entry)) (now (ends .entry))) q) (sized 12 (now (p .entry)) (Q.substr (u32At (now (p .entry)) 0) (u32At (now (p .entry)) 4) (u32At (now (p .entry)) 8)))) ⌝ }
+    ensures { λ r. ⌜ ((q : PairSlots) → acted r (lists (now (bytes .exit)) (atomSlotsIn (starts .exit) (ends .exit)) q)
+        ≡ actOf m (lists (now (bytes .entry)) (atomSlotsIn (starts .entry) (ends .entry)) q)
+        (sized 12 (now (p .entry)) (Q.substr (u32At (now (p .entry)) 0) (u32At (now (p .entry)) 4) (u32At (now (p .entry)) 8)))) ⌝ }
 {
     if p.len() != 12 {
         return machine::bad(m);
@@ -62,7 +68,9 @@ fn node_buffer() -> [u32; 16384]
 // Kind 4: a u64, the size, and then a u32 for each node.
 pub fn concat(m: Machine, bytes: &mut [u8], starts: &mut [u32], ends: &mut [u32], p: &[u8]) -> Did
     requires { ⌜ length (now p) < 65536 ⌝ }
-    ensures { λ r. ⌜ ((q : PairSlots) → acted r (lists (now (bytes .exit)) (atomSlots (now (starts .exit)) (now (ends .exit))) q) ≡ actOf m (lists (now (bytes .entry)) (atomSlots (now (starts .entry)) (now (ends .entry))) q) (listed (now (p .entry)) (Q.concat (u64At (now (p .entry)) 0) (u32s (drop 8 (now (p .entry))))))) ⌝ }
+    ensures { λ r. ⌜ ((q : PairSlots) → acted r (lists (now (bytes .exit)) (atomSlotsIn (starts .exit) (ends .exit)) q)
+        ≡ actOf m (lists (now (bytes .entry)) (atomSlotsIn (starts .entry) (ends .entry)) q)
+        (listed (now (p .entry)) (Q.concat (u64At (now (p .entry)) 0) (u32s (drop 8 (now (p .entry))))))) ⌝ }
 {
     if p.len() < 8 {
         return machine::bad(m);
@@ -80,7 +88,8 @@ pub fn concat(m: Machine, bytes: &mut [u8], starts: &mut [u32], ends: &mut [u32]
 
 // Kind 5: a u32, the value.
 pub fn small_number(m: Machine, p: &[u8]) -> Did
-    ensures { λ r. ⌜ ((l : Lists) → acted r l ≡ actOf m l (sized 4 (now (p .entry)) (Q.smallNumber (u32At (now (p .entry)) 0)))) ⌝ }
+    ensures { λ r. ⌜ ((l : Lists) → acted r l
+        ≡ actOf m l (sized 4 (now (p .entry)) (Q.smallNumber (u32At (now (p .entry)) 0)))) ⌝ }
 {
     if p.len() != 4 {
         return machine::bad(m);
@@ -92,9 +101,9 @@ pub fn small_number(m: Machine, p: &[u8]) -> Did
 }
 
 // Kind 6: no payload.
-pub fn mark(m: Machine, p: &[u8]) -> Did
+pub fn checkpoint(m: Machine, p: &[u8]) -> Did
     requires { ⌜ Sane m ⌝ }
-    ensures { λ r. ⌜ ((l : Lists) → acted r l ≡ actOf m l (sized 0 (now (p .entry)) Q.takeMark)) ⌝ }
+    ensures { λ r. ⌜ ((l : Lists) → acted r l ≡ actOf m l (sized 0 (now (p .entry)) Q.takeCheckpoint)) ⌝ }
 {
     if p.len() != 0 {
         return machine::bad(m);
@@ -104,7 +113,8 @@ pub fn mark(m: Machine, p: &[u8]) -> Did
 
 // Kind 10: a u64, the amount.
 pub fn add_ghost_pair(m: Machine, p: &[u8]) -> Did
-    ensures { λ r. ⌜ ((l : Lists) → acted r l ≡ actOf m l (sized 8 (now (p .entry)) (Q.addGhostPair (u64At (now (p .entry)) 0)))) ⌝ }
+    ensures { λ r. ⌜ ((l : Lists) → acted r l
+        ≡ actOf m l (sized 8 (now (p .entry)) (Q.addGhostPair (u64At (now (p .entry)) 0)))) ⌝ }
 {
     if p.len() != 8 {
         return machine::bad(m);
@@ -116,7 +126,8 @@ pub fn add_ghost_pair(m: Machine, p: &[u8]) -> Did
 
 // Kind 11: a u64, the amount.
 pub fn remove_ghost_pair(m: Machine, p: &[u8]) -> Did
-    ensures { λ r. ⌜ ((l : Lists) → acted r l ≡ actOf m l (sized 8 (now (p .entry)) (Q.removeGhostPair (u64At (now (p .entry)) 0)))) ⌝ }
+    ensures { λ r. ⌜ ((l : Lists) → acted r l
+        ≡ actOf m l (sized 8 (now (p .entry)) (Q.removeGhostPair (u64At (now (p .entry)) 0)))) ⌝ }
 {
     if p.len() != 8 {
         return machine::bad(m);
@@ -128,7 +139,8 @@ pub fn remove_ghost_pair(m: Machine, p: &[u8]) -> Did
 
 // Kind 12: a u64, the amount.
 pub fn add_ghost_atom(m: Machine, p: &[u8]) -> Did
-    ensures { λ r. ⌜ ((l : Lists) → acted r l ≡ actOf m l (sized 8 (now (p .entry)) (Q.addGhostAtom (u64At (now (p .entry)) 0)))) ⌝ }
+    ensures { λ r. ⌜ ((l : Lists) → acted r l
+        ≡ actOf m l (sized 8 (now (p .entry)) (Q.addGhostAtom (u64At (now (p .entry)) 0)))) ⌝ }
 {
     if p.len() != 8 {
         return machine::bad(m);

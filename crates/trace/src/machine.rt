@@ -12,18 +12,17 @@ use rules::Taken;
 use rules::Verdict;
 use text::Shown;
 ghost use mathlib.Core.Path.{_≡_};
-ghost use Prim.Native.Nat.{_+_, _-_, _*_, _≤_, _<_};
 ghost use Rattle.rules.specs.Node.{nil};
 ghost use Rattle.rules.specs.Said as Said;
-ghost use Rattle.rules.specs.Reads.{checkpoint};
-ghost use Rattle.rules.specs.Paper.{codeNumber, answerPaper, verdictPaper, takenPaper, maybePaper};
-ghost use Rattle.rules.specs.Restores.{savings};
-ghost use Rattle.rules.proofs.Limits.{Limits};
-ghost use Rattle.trace.specs.Machine.{freshMachine, withState, withMark, withRestored, didOf, didBad, didMake, didChange, didTake, didRestore, didMaybe};
+ghost use Rattle.rules.specs.Record.{checkpoint};
+ghost use Rattle.rules.specs.Paper.{codeNumber, answerPaper, verdictPaper, maybePaper};
+ghost use Rattle.trace.specs.Machine.{freshMachine, withState, withRestored, didOf, didBad, didMake, didChange, didTake, didRestore, didMaybe};
 ghost use Rattle.trace.specs.Sane.{Sane};
 
+// The code of a bad record, which ends the run: the request program's own.
+pub const BAD_RECORD: usize = 16;
 // The most checkpoints.
-const MARKS: usize = 32;
+const CHECKPOINTS: usize = 32;
 
 // The record, how many rows are shown, what restores released, and the checkpoints taken, by their number.
 pub struct Machine {
@@ -31,7 +30,7 @@ pub struct Machine {
     pub shown: usize,
     pub released: usize,
     pub taken: usize,
-    pub marks: [Checkpoint; 32],
+    pub checkpoints: [Checkpoint; 32],
 }
 
 // What a record did: the machine after it, and the code and the node that its row shows.
@@ -57,53 +56,31 @@ pub fn fresh() -> Machine
         pairs: 0,
         bytes: 0,
     };
-    let mark = Checkpoint {
+    let checkpoint = Checkpoint {
         used: none,
         ghosts: none,
     };
-    let marks = [mark; 32];
+    let checkpoints = [checkpoint; 32];
     Machine {
-        state: state::record::fresh(4294967295),
+        state: state::record::fresh(state::record::TOP),
         shown: 0,
         released: 0,
         taken: 0,
-        marks,
+        checkpoints,
     }
 }
 
 fn with_state(m: Machine, state: Allocator) -> Machine
     ensures { λ r. ⌜ r ≡ withState m state ⌝ }
 {
-    let marks = m.marks;
+    let checkpoints = m.checkpoints;
     Machine {
         state,
         shown: m.shown,
         released: m.released,
         taken: m.taken,
-        marks,
+        checkpoints,
     }
-}
-
-// What of x is above y.
-fn above(x: usize, y: usize) -> usize
-    ensures { λ r. ⌜ r ≡ x - y ⌝ }
-{
-    if x <= y {
-        return 0;
-    }
-    x - y
-}
-
-// Bytes cut + 8 × (atoms cut + pairs cut).
-fn saved(k: Counts, a: Allocator) -> usize
-    requires { ⌜ Limits a ⌝ }
-    ensures { λ r. ⌜ r ≡ savings k a ⌝ }
-    ensures { λ r. ⌜ r < 8589934592 ⌝ }
-{
-    let bytes = above(a.used.bytes, k.bytes);
-    let atoms = above(a.used.atoms, k.atoms);
-    let pairs = above(a.used.pairs, k.pairs);
-    bytes + 8 * (atoms + pairs)
 }
 
 // After an accepted restore to k that left the record a: what it released is counted.
@@ -112,14 +89,14 @@ fn with_restored(m: Machine, k: Counts, a: Allocator) -> Machine
     ensures { λ r. ⌜ r ≡ withRestored m k a ⌝ }
 {
     let before = m.state;
-    let released = m.released + saved(k, before);
-    let marks = m.marks;
+    let released = m.released + state::record::savings(k, before);
+    let checkpoints = m.checkpoints;
     Machine {
         state: a,
         shown: m.shown,
         released,
         taken: m.taken,
-        marks,
+        checkpoints,
     }
 }
 
@@ -129,7 +106,7 @@ pub fn bad(m: Machine) -> Did
 {
     Did {
         machine: m,
-        code: 16,
+        code: BAD_RECORD,
         node: Shown::Nothing,
     }
 }
@@ -141,7 +118,7 @@ fn refuse(m: Machine, code: Code) -> Did
     Did {
         machine: m,
         code: number(code),
-        node: Shown::Node(134217728),
+        node: Shown::Node(node::NIL),
     }
 }
 
@@ -198,19 +175,19 @@ fn keep(m: Machine, k: Checkpoint) -> Did
     ensures { λ r. ⌜ r ≡ didTake m (Said.says k) ⌝ }
 {
     let i = m.taken;
-    if MARKS <= i {
+    if CHECKPOINTS <= i {
         return refuse(m, Code::Full);
     }
     let state = m.state;
-    let mut marks = m.marks;
-    marks[i] = k;
+    let mut checkpoints = m.checkpoints;
+    checkpoints[i] = k;
     Did {
         machine: Machine {
             state,
             shown: m.shown,
             released: m.released,
             taken: i + 1,
-            marks,
+            checkpoints,
         },
         code: 0,
         node: Shown::Nothing,

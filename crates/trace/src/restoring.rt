@@ -6,7 +6,8 @@ use crate::machine::Machine;
 ghost use mathlib.Core.Path.{_≡_};
 ghost use mathlib.Core.List.{List};
 ghost use Prim.Native.Nat.{ℕ};
-ghost use Rattle.rules.specs.State.{atomSlots, pairSlots, lists};
+ghost use Rattle.rules.specs.State.{lists};
+ghost use Rattle.rules.specs.Lent.{atomSlotsIn, pairSlotsIn, listsIn};
 ghost use Rattle.trace.specs.Bytes.{u16At, u32At};
 ghost use Rattle.trace.specs.Request as Q;
 ghost use Rattle.trace.specs.Request.{sized};
@@ -23,7 +24,9 @@ pub fn plain(
     p: &[u8],
 ) -> Did
     requires { ⌜ Sane m ⌝ }
-    ensures { λ r. ⌜ ((b : List ℕ) → acted r (lists b (atomSlots (now (starts .entry)) (now (ends .entry))) (pairSlots (now (firsts .entry)) (now (rests .entry)))) ≡ actOf m (lists b (atomSlots (now (starts .entry)) (now (ends .entry))) (pairSlots (now (firsts .entry)) (now (rests .entry)))) (sized 2 (now (p .entry)) (Q.restore (u16At (now (p .entry)) 0)))) ⌝ }
+    ensures { λ r. ⌜ ((b : List ℕ) → acted r (lists b (atomSlotsIn (starts .entry) (ends .entry)) (pairSlotsIn (firsts .entry) (rests .entry)))
+        ≡ actOf m (lists b (atomSlotsIn (starts .entry) (ends .entry)) (pairSlotsIn (firsts .entry) (rests .entry)))
+        (sized 2 (now (p .entry)) (Q.restore (u16At (now (p .entry)) 0)))) ⌝ }
 {
     if p.len() != 2 {
         return machine::bad(m);
@@ -32,7 +35,7 @@ pub fn plain(
     if m.taken <= i {
         return machine::untaken(m);
     }
-    let k = m.marks[i];
+    let k = m.checkpoints[i];
     let used = k.used;
     let a = m.state;
     let changed = restores::restore_checkpoint(a, starts, ends, firsts, rests, k);
@@ -49,7 +52,9 @@ pub fn transparent(
     p: &[u8],
 ) -> Did
     requires { ⌜ Sane m ⌝ }
-    ensures { λ r. ⌜ ((b : List ℕ) → acted r (lists b (atomSlots (now (starts .entry)) (now (ends .entry))) (pairSlots (now (firsts .entry)) (now (rests .entry)))) ≡ actOf m (lists b (atomSlots (now (starts .entry)) (now (ends .entry))) (pairSlots (now (firsts .entry)) (now (rests .entry)))) (sized 2 (now (p .entry)) (Q.restoreTransparent (u16At (now (p .entry)) 0)))) ⌝ }
+    ensures { λ r. ⌜ ((b : List ℕ) → acted r (lists b (atomSlotsIn (starts .entry) (ends .entry)) (pairSlotsIn (firsts .entry) (rests .entry)))
+        ≡ actOf m (lists b (atomSlotsIn (starts .entry) (ends .entry)) (pairSlotsIn (firsts .entry) (rests .entry)))
+        (sized 2 (now (p .entry)) (Q.restoreTransparent (u16At (now (p .entry)) 0)))) ⌝ }
 {
     if p.len() != 2 {
         return machine::bad(m);
@@ -58,7 +63,7 @@ pub fn transparent(
     if m.taken <= i {
         return machine::untaken(m);
     }
-    let k = m.marks[i];
+    let k = m.checkpoints[i];
     let used = k.used;
     let a = m.state;
     let changed = restores::restore_transparent_checkpoint(a, starts, ends, firsts, rests, used);
@@ -76,7 +81,9 @@ pub fn with_node(
     p: &[u8],
 ) -> Did
     requires { ⌜ Sane m ⌝ }
-    ensures { λ r. ⌜ acted r (lists (now (bytes .exit)) (atomSlots (now (starts .exit)) (now (ends .exit))) (pairSlots (now (firsts .entry)) (now (rests .entry)))) ≡ actOf m (lists (now (bytes .entry)) (atomSlots (now (starts .entry)) (now (ends .entry))) (pairSlots (now (firsts .entry)) (now (rests .entry)))) (sized 6 (now (p .entry)) (Q.maybeRestore (u16At (now (p .entry)) 0) (u32At (now (p .entry)) 2))) ⌝ }
+    ensures { λ r. ⌜ acted r (listsIn (bytes .exit) (starts .exit) (ends .exit) (firsts .entry) (rests .entry))
+        ≡ actOf m (listsIn (bytes .entry) (starts .entry) (ends .entry) (firsts .entry) (rests .entry))
+        (sized 6 (now (p .entry)) (Q.maybeRestore (u16At (now (p .entry)) 0) (u32At (now (p .entry)) 2))) ⌝ }
 {
     if p.len() != 6 {
         return machine::bad(m);
@@ -86,7 +93,7 @@ pub fn with_node(
         return machine::untaken(m);
     }
     let n = fields::u32_at(p, 2);
-    let k = m.marks[i];
+    let k = m.checkpoints[i];
     let used = k.used;
     let a = m.state;
     let restored = restores::maybe_restore_with_node(

@@ -4,10 +4,9 @@ use crate::machine::Machine;
 use crate::step;
 use libc::STDOUT_FILENO;
 ghost use mathlib.Core.Path.{_≡_};
-ghost use Prim.Native.Nat.{_+_, _*_, _/_, _≤_, _<_};
-ghost use lib.ListN.{length, take};
-ghost use Rattle.io.specs.Counts.{Counts};
-ghost use Rattle.rules.specs.State.{atomSlots, pairSlots, lists};
+ghost use Prim.Native.Nat.{_+_, _*_, _≤_, _<_};
+ghost use lib.ListN.{length};
+ghost use Rattle.rules.specs.Lent.{listsIn};
 ghost use Rattle.trace.specs.Sane.{Ready};
 ghost use Rattle.trace.specs.Trace.{textOf};
 ghost use Rattle.trace.specs.Run.{Advanced, Ended, RanFrom};
@@ -44,9 +43,11 @@ fn advance(
     out: &mut [u8],
     w: usize,
 ) -> Moved
-    requires { ⌜ Ready m (lists (now bytes) (atomSlots (now starts) (now ends)) (pairSlots (now firsts) (now rests))) ⌝ }
+    requires { ⌜ Ready m (listsIn bytes starts ends firsts rests) ⌝ }
     requires { ⌜ (m .shown < 536870912) × (0 < length (now rest)) × (w + 126 ≤ length (now out)) ⌝ }
-    ensures { λ r. ⌜ Advanced m (lists (now (bytes .entry)) (atomSlots (now (starts .entry)) (now (ends .entry))) (pairSlots (now (firsts .entry)) (now (rests .entry)))) (now (rest .entry)) (now (out .entry)) w (lists (now (bytes .exit)) (atomSlots (now (starts .exit)) (now (ends .exit))) (pairSlots (now (firsts .exit)) (now (rests .exit)))) (now (out .exit)) r ⌝ }
+    ensures { λ r. ⌜ Advanced
+        m (listsIn (bytes .entry) (starts .entry) (ends .entry) (firsts .entry) (rests .entry)) (now (rest .entry)) (now (out .entry)) w
+        (listsIn (bytes .exit) (starts .exit) (ends .exit) (firsts .exit) (rests .exit)) (now (out .exit)) r ⌝ }
 {
     let s = step::take_step(m, bytes, starts, ends, firsts, rests, rest);
     let row = s.row;
@@ -87,9 +88,11 @@ pub fn run(
     out: &mut [u8],
     w0: usize,
 ) -> Ran
-    requires { ⌜ Ready m0 (lists (now bytes) (atomSlots (now starts) (now ends)) (pairSlots (now firsts) (now rests))) ⌝ }
+    requires { ⌜ Ready m0 (listsIn bytes starts ends firsts rests) ⌝ }
     requires { ⌜ (4 * m0 .shown ≤ at0) × (at0 ≤ length (now input)) × (length (now input) ≤ 1048576) × (w0 + 46 ≤ length (now out)) ⌝ }
-    ensures { λ r. ⌜ RanFrom m0 (lists (now (bytes .entry)) (atomSlots (now (starts .entry)) (now (ends .entry))) (pairSlots (now (firsts .entry)) (now (rests .entry)))) (now (input .entry)) (now (out .entry)) at0 w0 (lists (now (bytes .exit)) (atomSlots (now (starts .exit)) (now (ends .exit))) (pairSlots (now (firsts .exit)) (now (rests .exit)))) (now (out .exit)) r ⌝ }
+    ensures { λ r. ⌜ RanFrom
+        m0 (listsIn (bytes .entry) (starts .entry) (ends .entry) (firsts .entry) (rests .entry)) (now (input .entry)) (now (out .entry)) at0 w0
+        (listsIn (bytes .exit) (starts .exit) (ends .exit) (firsts .exit) (rests .exit)) (now (out .exit)) r ⌝ }
 {
     let mut m = m0;
     let mut at = at0;
@@ -115,39 +118,6 @@ pub fn run(
     finish(m, at, out, w)
 }
 
-// The whole text of an input, where out can hold it; answers its length.
-pub fn whole(
-    bytes: &mut [u8],
-    starts: &mut [u32],
-    ends: &mut [u32],
-    firsts: &mut [u32],
-    rests: &mut [u32],
-    input: &[u8],
-    out: &mut [u8],
-) -> usize
-    requires { ⌜ 201 + 126 * (length (now input) / 4) ≤ length (now out) ⌝ }
-    ensures { λ r. ⌜ Counts r (now (out .exit)) ⌝ }
-    ensures { λ r. ⌜ take r (now (out .exit)) ≡ textOf (lists (now (bytes .entry)) (atomSlots (now (starts .entry)) (now (ends .entry))) (pairSlots (now (firsts .entry)) (now (rests .entry)))) (now (input .entry)) ⌝ }
-{
-    if LONGEST < input.len() {
-        return text::put_long(out);
-    }
-    let head = text::put_head(out);
-    let ran = run(
-        machine::fresh(),
-        bytes,
-        starts,
-        ends,
-        firsts,
-        rests,
-        input,
-        0,
-        out,
-        head,
-    );
-    ran.wrote
-}
-
 // Writes the whole text of an input to standard output, a buffer at a time; answers how many bytes that were.
 pub fn print(
     bytes: &mut [u8],
@@ -159,7 +129,8 @@ pub fn print(
     out: &mut [u8],
 ) -> usize
     requires { ⌜ 201 ≤ length (now out) ⌝ }
-    ensures { λ r. ⌜ r ≡ length (textOf (lists (now (bytes .entry)) (atomSlots (now (starts .entry)) (now (ends .entry))) (pairSlots (now (firsts .entry)) (now (rests .entry)))) (now (input .entry))) ⌝ }
+    ensures { λ r. ⌜ r
+        ≡ length (textOf (listsIn (bytes .entry) (starts .entry) (ends .entry) (firsts .entry) (rests .entry)) (now (input .entry))) ⌝ }
 {
     if LONGEST < input.len() {
         let k = text::put_long(out);

@@ -7,16 +7,41 @@ use crate::machine::Machine;
 use crate::restoring;
 use text::Row;
 ghost use mathlib.Core.Path.{_≡_};
-ghost use Prim.Native.Nat.{_+_, _≤_, _<_};
+ghost use Prim.Native.Nat.{_<_};
 ghost use mathlib.Core.Bool.{cond};
 ghost use lib.Dec.{eqb};
 ghost use lib.ListN.{length};
-ghost use Rattle.rules.specs.State.{atomSlots, pairSlots, lists};
+ghost use Rattle.rules.specs.Lent.{listsIn};
 ghost use Rattle.rules.proofs.Limits.{Limits};
 ghost use Rattle.trace.specs.Request.{frameOf, laterOf, requestOf};
 ghost use Rattle.trace.specs.Machine.{acted, actOf};
 ghost use Rattle.trace.specs.Sane.{Sane, Ready};
 ghost use Rattle.trace.specs.Step.{rowOf, closed, stepped, stepOn};
+
+// The kinds of records (document 01, "The request program").
+const ATOM: usize = 1;
+
+const PAIR: usize = 2;
+
+const SUBSTR: usize = 3;
+
+const CONCAT: usize = 4;
+
+const SMALL_NUMBER: usize = 5;
+
+const CHECKPOINT: usize = 6;
+
+const RESTORE: usize = 7;
+
+const RESTORE_TRANSPARENT: usize = 8;
+
+const MAYBE_RESTORE: usize = 9;
+
+const ADD_GHOST_PAIR: usize = 10;
+
+const REMOVE_GHOST_PAIR: usize = 11;
+
+const ADD_GHOST_ATOM: usize = 12;
 
 // What stands at the front of the input: a whole record, of a kind and a payload length, or none.
 pub enum Frame {
@@ -57,24 +82,25 @@ fn act_later(
     p: &[u8],
 ) -> Did
     requires { ⌜ Sane m ⌝ }
-    ensures { λ r. ⌜ acted r (lists (now (bytes .exit)) (atomSlots (now (starts .exit)) (now (ends .exit))) (pairSlots (now (firsts .entry)) (now (rests .entry)))) ≡ actOf m (lists (now (bytes .entry)) (atomSlots (now (starts .entry)) (now (ends .entry))) (pairSlots (now (firsts .entry)) (now (rests .entry)))) (laterOf kind (now (p .entry))) ⌝ }
+    ensures { λ r. ⌜ acted r (listsIn (bytes .exit) (starts .exit) (ends .exit) (firsts .entry) (rests .entry))
+        ≡ actOf m (listsIn (bytes .entry) (starts .entry) (ends .entry) (firsts .entry) (rests .entry)) (laterOf kind (now (p .entry))) ⌝ }
 {
-    if kind == 7 {
+    if kind == RESTORE {
         return restoring::plain(m, starts, ends, firsts, rests, p);
     }
-    if kind == 8 {
+    if kind == RESTORE_TRANSPARENT {
         return restoring::transparent(m, starts, ends, firsts, rests, p);
     }
-    if kind == 9 {
+    if kind == MAYBE_RESTORE {
         return restoring::with_node(m, bytes, starts, ends, firsts, rests, p);
     }
-    if kind == 10 {
+    if kind == ADD_GHOST_PAIR {
         return creating::add_ghost_pair(m, p);
     }
-    if kind == 11 {
+    if kind == REMOVE_GHOST_PAIR {
         return creating::remove_ghost_pair(m, p);
     }
-    if kind == 12 {
+    if kind == ADD_GHOST_ATOM {
         return creating::add_ghost_atom(m, p);
     }
     machine::bad(m)
@@ -93,25 +119,26 @@ fn act(
 ) -> Did
     requires { ⌜ Sane m ⌝ }
     requires { ⌜ length (now p) < 65536 ⌝ }
-    ensures { λ r. ⌜ acted r (lists (now (bytes .exit)) (atomSlots (now (starts .exit)) (now (ends .exit))) (pairSlots (now (firsts .exit)) (now (rests .exit)))) ≡ actOf m (lists (now (bytes .entry)) (atomSlots (now (starts .entry)) (now (ends .entry))) (pairSlots (now (firsts .entry)) (now (rests .entry)))) (requestOf kind (now (p .entry))) ⌝ }
+    ensures { λ r. ⌜ acted r (listsIn (bytes .exit) (starts .exit) (ends .exit) (firsts .exit) (rests .exit))
+        ≡ actOf m (listsIn (bytes .entry) (starts .entry) (ends .entry) (firsts .entry) (rests .entry)) (requestOf kind (now (p .entry))) ⌝ }
 {
-    if kind == 1 {
+    if kind == ATOM {
         return creating::atom(m, bytes, starts, ends, p);
     }
-    if kind == 2 {
+    if kind == PAIR {
         return creating::pair(m, firsts, rests, p);
     }
-    if kind == 3 {
+    if kind == SUBSTR {
         return creating::substr(m, bytes, starts, ends, p);
     }
-    if kind == 4 {
+    if kind == CONCAT {
         return creating::concat(m, bytes, starts, ends, p);
     }
-    if kind == 5 {
+    if kind == SMALL_NUMBER {
         return creating::small_number(m, p);
     }
-    if kind == 6 {
-        return creating::mark(m, p);
+    if kind == CHECKPOINT {
+        return creating::checkpoint(m, p);
     }
     act_later(m, bytes, starts, ends, firsts, rests, kind, p)
 }
@@ -137,7 +164,7 @@ fn row_of(d: Did, n: usize) -> Row
 fn size_of(code: usize, size: usize) -> usize
     ensures { λ r. ⌜ r ≡ cond (eqb code 16) 0 size ⌝ }
 {
-    if code == 16 {
+    if code == machine::BAD_RECORD {
         return 0;
     }
     size
@@ -150,14 +177,14 @@ fn close(d: Did, size: usize) -> Step
 {
     let m = d.machine;
     let n = m.shown + 1;
-    let marks = m.marks;
+    let checkpoints = m.checkpoints;
     let state = m.state;
     let machine = Machine {
         state,
         shown: n,
         released: m.released,
         taken: m.taken,
-        marks,
+        checkpoints,
     };
     Step {
         machine,
@@ -176,8 +203,9 @@ pub fn take_step(
     rests: &mut [u32],
     rest: &[u8],
 ) -> Step
-    requires { ⌜ Ready m (lists (now bytes) (atomSlots (now starts) (now ends)) (pairSlots (now firsts) (now rests))) ⌝ }
-    ensures { λ r. ⌜ stepped r (lists (now (bytes .exit)) (atomSlots (now (starts .exit)) (now (ends .exit))) (pairSlots (now (firsts .exit)) (now (rests .exit)))) ≡ stepOn m (lists (now (bytes .entry)) (atomSlots (now (starts .entry)) (now (ends .entry))) (pairSlots (now (firsts .entry)) (now (rests .entry)))) (now (rest .entry)) ⌝ }
+    requires { ⌜ Ready m (listsIn bytes starts ends firsts rests) ⌝ }
+    ensures { λ r. ⌜ stepped r (listsIn (bytes .exit) (starts .exit) (ends .exit) (firsts .exit) (rests .exit))
+        ≡ stepOn m (listsIn (bytes .entry) (starts .entry) (ends .entry) (firsts .entry) (rests .entry)) (now (rest .entry)) ⌝ }
 {
     let frame = frame_at(rest);
     let Frame::Whole(kind, len) = frame else {

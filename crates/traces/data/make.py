@@ -39,7 +39,7 @@ def small(v):
     return rec(5, struct.pack('<I', v))
 
 
-def mark():
+def checkpoint():
     return rec(6)
 
 
@@ -80,7 +80,7 @@ cases['empty'] = b''
 cases['example'] = bytes.fromhex(
     '02 00 01 00 00 80 0c 00 03 00 80 00 00 08 01 00 00 00 02 00 00 00 08 00 02 00 00 00 00 04 00 00 00 08')
 cases['every-kind'] = b''.join([
-    atom(b'\x01'), atom(b'hello'), pair(NIL, ATOM), substr(ATOM, 1, 3), concat(8, ATOM, ATOM + 1, NIL + 1), small(67_108_863), mark(),
+    atom(b'\x01'), atom(b'hello'), pair(NIL, ATOM), substr(ATOM, 1, 3), concat(8, ATOM, ATOM + 1, NIL + 1), small(67_108_863), checkpoint(),
     long(2000), maybe(0, ATOM), transparent(0), add_pairs(5), remove_pairs(2), add_atoms(7), plain(0), pair(0, 0)])
 
 # ---- atoms and small numbers
@@ -116,7 +116,7 @@ cases['out-of-memory-2'] = b''.join([
 # ---- ghosts: 3, 4, 14
 cases['too-many-atoms-3'] = b''.join([
     add_atoms(MOST), add_atoms(MOST - 2), atom(b''), atom(b'abc'), small(1), small(67108864), substr(NIL, 0, 0), substr(0, 0, 0), concat(0),
-    concat(2**64 - 1), add_atoms(0), add_atoms(1), add_atoms(2**64 - 1), pair(NIL, NIL), mark(), maybe(0, NIL)])
+    concat(2**64 - 1), add_atoms(0), add_atoms(1), add_atoms(2**64 - 1), pair(NIL, NIL), checkpoint(), maybe(0, NIL)])
 cases['too-many-pairs-4'] = b''.join([
     add_pairs(MOST + 1), add_pairs(MOST), pair(NIL, NIL), pair(NIL, 0), add_pairs(0), add_pairs(1), add_pairs(2**64 - 1), remove_pairs(1), pair(NIL, NIL),
     pair(NIL, NIL)])
@@ -125,30 +125,30 @@ cases['too-few-ghosts-14'] = b''.join([
 
 # ---- checkpoints: 11, 12, 15, and what is released
 cases['untaken-11'] = b''.join([
-    plain(0), transparent(0), maybe(0, 5 << 26), mark(), plain(0), plain(1), transparent(1), maybe(1, NIL), maybe(0, 5 << 26), plain(65535)])
-cases['dead-11'] = b''.join([mark(), atom(b'abc'), pair(NIL, ATOM), mark(), plain(0), plain(1), transparent(1), maybe(1, NIL), atom(b'abcd'), pair(NIL, NIL), plain(1)])
-cases['dead-but-usable-12'] = b''.join([mark(), long(100), mark(), plain(0), long(50), long(2000), maybe(1, ATOM + 1), maybe(1, ATOM), plain(1)])
-cases['stale-slot-11'] = b''.join([mark(), long(10), mark(), plain(0), long(60), long(4), plain(1), transparent(1)])
-cases['stale-pair-11'] = b''.join([mark(), pair(NIL, NIL), mark(), plain(0), long(9), pair(NIL, ATOM), plain(1), transparent(1), maybe(1, NIL)])
-cases['plain-ghosts'] = b''.join([mark(), small(128), long(20), pair(NIL, ATOM), add_pairs(3), plain(0), transparent(0), small(5)])
-cases['transparent-totals'] = b''.join([mark(), small(128), long(20), pair(NIL, ATOM), add_pairs(3), transparent(0), plain(0)])
-cases['thirty-third-15'] = b''.join([mark()] * 33 + [plain(31), plain(32), transparent(32), mark(), maybe(32, NIL)])
+    plain(0), transparent(0), maybe(0, 5 << 26), checkpoint(), plain(0), plain(1), transparent(1), maybe(1, NIL), maybe(0, 5 << 26), plain(65535)])
+cases['dead-11'] = b''.join([checkpoint(), atom(b'abc'), pair(NIL, ATOM), checkpoint(), plain(0), plain(1), transparent(1), maybe(1, NIL), atom(b'abcd'), pair(NIL, NIL), plain(1)])
+cases['dead-but-usable-12'] = b''.join([checkpoint(), long(100), checkpoint(), plain(0), long(50), long(2000), maybe(1, ATOM + 1), maybe(1, ATOM), plain(1)])
+cases['stale-slot-11'] = b''.join([checkpoint(), long(10), checkpoint(), plain(0), long(60), long(4), plain(1), transparent(1)])
+cases['stale-pair-11'] = b''.join([checkpoint(), pair(NIL, NIL), checkpoint(), plain(0), long(9), pair(NIL, ATOM), plain(1), transparent(1), maybe(1, NIL)])
+cases['plain-ghosts'] = b''.join([checkpoint(), small(128), long(20), pair(NIL, ATOM), add_pairs(3), plain(0), transparent(0), small(5)])
+cases['transparent-totals'] = b''.join([checkpoint(), small(128), long(20), pair(NIL, ATOM), add_pairs(3), transparent(0), plain(0)])
+cases['thirty-third-15'] = b''.join([checkpoint()] * 33 + [plain(31), plain(32), transparent(32), checkpoint(), maybe(32, NIL)])
 
 # maybe_restore_with_node: both sides of 1024, 48, and the four answers
-cases['savings-1023'] = b''.join([mark(), long(959), long(48), maybe(0, ATOM + 1)])
-cases['savings-1024'] = b''.join([mark(), long(960), long(48), maybe(0, ATOM + 1)])
-cases['clone-49'] = b''.join([mark(), long(960), long(49), maybe(0, ATOM + 1)])
-cases['clone-small'] = b''.join([mark(), long(1100), atom(b''), concat(2, NIL + 128, NIL), maybe(0, ATOM + 1), substr(NIL + 128, 1, 2)])
-cases['share-old-bytes'] = b''.join([long(40), mark(), long(1100), substr(ATOM, 10, 20), maybe(0, ATOM + 2), substr(ATOM + 1, 0, 10), maybe(0, ATOM + 1)])
-cases['no-replace'] = b''.join([long(40), pair(ATOM, NIL), mark(), long(1100), pair(0, 0), maybe(0, ATOM), long(1100), maybe(0, 0), long(1100), maybe(0, NIL + 7)])
-cases['aborted-pair'] = b''.join([mark(), long(1100), pair(NIL, NIL), maybe(0, 0), maybe(0, 1), maybe(0, ATOM + 1), plain(0)])
-cases['by-slots-alone'] = b''.join([mark()] + [pair(NIL, NIL)] * 127 + [maybe(0, NIL), pair(NIL, NIL), maybe(0, NIL)])
-cases['nested'] = b''.join([mark(), long(1000), mark(), long(1000), mark(), long(1000), maybe(2, ATOM + 2), maybe(1, NIL), long(30), maybe(0, ATOM + 1), plain(0), plain(0)])
+cases['savings-1023'] = b''.join([checkpoint(), long(959), long(48), maybe(0, ATOM + 1)])
+cases['savings-1024'] = b''.join([checkpoint(), long(960), long(48), maybe(0, ATOM + 1)])
+cases['clone-49'] = b''.join([checkpoint(), long(960), long(49), maybe(0, ATOM + 1)])
+cases['clone-small'] = b''.join([checkpoint(), long(1100), atom(b''), concat(2, NIL + 128, NIL), maybe(0, ATOM + 1), substr(NIL + 128, 1, 2)])
+cases['share-old-bytes'] = b''.join([long(40), checkpoint(), long(1100), substr(ATOM, 10, 20), maybe(0, ATOM + 2), substr(ATOM + 1, 0, 10), maybe(0, ATOM + 1)])
+cases['no-replace'] = b''.join([long(40), pair(ATOM, NIL), checkpoint(), long(1100), pair(0, 0), maybe(0, ATOM), long(1100), maybe(0, 0), long(1100), maybe(0, NIL + 7)])
+cases['aborted-pair'] = b''.join([checkpoint(), long(1100), pair(NIL, NIL), maybe(0, 0), maybe(0, 1), maybe(0, ATOM + 1), plain(0)])
+cases['by-slots-alone'] = b''.join([checkpoint()] + [pair(NIL, NIL)] * 127 + [maybe(0, NIL), pair(NIL, NIL), maybe(0, NIL)])
+cases['nested'] = b''.join([checkpoint(), long(1000), checkpoint(), long(1000), checkpoint(), long(1000), maybe(2, ATOM + 2), maybe(1, NIL), long(30), maybe(0, ATOM + 1), plain(0), plain(0)])
 
 # ---- full stores: 15
 cases['bytes-full-15'] = b''.join([long(32_767), long(2), atom(b'\x80'), atom(b'\x80'), atom(b'\x01'), substr(ATOM, 0, 5), small(128), substr(NIL + 128, 1, 2), concat(5, ATOM + 1, NIL + 67108863)])
 cases['atom-slots-full-15'] = b''.join([atom(b'\x80')] * 2049 + [substr(ATOM, 0, 1), concat(2, ATOM, ATOM), concat(1, ATOM), atom(b''), pair(ATOM, ATOM + 2047)])
-cases['pair-slots-full-15'] = b''.join([pair(NIL, NIL)] * 2049 + [pair(2047, 2048), pair(2047, 2047), mark()])
+cases['pair-slots-full-15'] = b''.join([pair(NIL, NIL)] * 2049 + [pair(2047, 2048), pair(2047, 2047), checkpoint()])
 
 # ---- bad records: 16
 for n in (1, 2, 3):
@@ -160,15 +160,15 @@ for kind in (0, 13, 256, 65535):
 for kind, size in sorted(model.SIZES.items()):
     for n in (size - 1, size + 1):
         if n >= 0:
-            cases[f'kind-{kind}-of-{n}-16'] = mark() + rec(kind, b'\0' * n) + small(8)
+            cases[f'kind-{kind}-of-{n}-16'] = checkpoint() + rec(kind, b'\0' * n) + small(8)
 for n in (0, 4, 7, 9, 10, 11, 13):
-    cases[f'kind-4-of-{n}-16'] = mark() + rec(4, b'\0' * n) + small(8)
+    cases[f'kind-4-of-{n}-16'] = checkpoint() + rec(4, b'\0' * n) + small(8)
 
 # ---- the longest input: 65,536 bytes, of the shortest records, of one atom, of concats
-cases['longest-marks'] = mark() * 16384
+cases['longest-checkpoints'] = checkpoint() * 16384
 cases['longest-atom'] = long(65532)
-cases['longest-concat'] = concat(0, *[NIL] * 16380) + mark()
-cases['longest-pairs'] = (mark() + b''.join(atom(bytes([i % 256, i % 251, i % 13])) + pair(NIL, NIL) + maybe(0, NIL) for i in range(2400)))[:65536]
+cases['longest-concat'] = concat(0, *[NIL] * 16380) + checkpoint()
+cases['longest-pairs'] = (checkpoint() + b''.join(atom(bytes([i % 256, i % 251, i % 13])) + pair(NIL, NIL) + maybe(0, NIL) for i in range(2400)))[:65536]
 
 folder = os.path.dirname(os.path.abspath(__file__))
 with open(os.path.join(folder, 'inputs'), 'wb') as inputs, open(os.path.join(folder, 'texts'), 'w') as texts:

@@ -257,12 +257,12 @@ def number(b, at, size):
 
 class Machine:
     def __init__(self):
-        self.a, self.marks, self.released, self.shown = Allocator(), [], 0, 0
+        self.a, self.checkpoints, self.released, self.shown = Allocator(), [], 0, 0
 
-    def mark(self, i):
-        if i >= len(self.marks):
+    def checkpoint(self, i):
+        if i >= len(self.checkpoints):
             raise Refused(11)
-        return self.marks[i]
+        return self.checkpoints[i]
 
     def act(self, kind, p):
         """The node column."""
@@ -278,12 +278,12 @@ class Machine:
         if kind == 5:
             return a.new_small_number(number(p, 0, 4))
         if kind == 6:
-            if len(self.marks) == 32:
+            if len(self.checkpoints) == 32:
                 raise Refused(15)
-            self.marks.append(a.checkpoint())
+            self.checkpoints.append(a.checkpoint())
             return '-'
         if kind in (7, 8, 9):
-            k = self.mark(number(p, 0, 2))
+            k = self.checkpoint(number(p, 0, 2))
             saved = a.savings(k)
             if kind == 9:
                 node = a.maybe_restore_with_node(k, number(p, 2, 4))

@@ -3,10 +3,10 @@ use mathlib.Core.Path.{sym, ap, _∙_}
 use native.Mathlib.Omega.{arith}
 use borrow.Author.Needs.{needs}
 use denote.Ref.{now}
-use Rattle.rules.specs.State.{lists, atomSlots, pairSlots, store}
+use Rattle.rules.specs.State.{lists, atomSlots, pairSlots, store, pairStore}
 use Rattle.rules.specs.Serial.{broken, opening, string}
 use Rattle.rules.specs.Load as Rule
-use Rattle.rows.specs.Rows.{recordOf}
+use Rattle.words.specs.Words.{recordOf}
 use Rattle.load.specs.Tokens.{tokenPaper}
 use Rattle.load.proofs.Readings.{item-deep, item-by, pair-first, pair-rest, pair-both}
 use Rattle.load.proofs.Tokens.{pair-inside, atom-inside}
@@ -60,7 +60,7 @@ module _ (t : ℕ) where
       let (start, then1) : in-item item-lts.Start × in-item item-lts.Then1 = search in
       let a = start .args in
       let l = lists (now (a .bytes)) (atomSlots (now (a .starts)) (now (a .ends))) (pairSlots (now (a .firsts)) (now (a .rests))) in
-      c .fault .ensures (recordOf (now (a .row))) l ∙ item-deep (now (a .f)) (a .levels) (a .at) (recordOf (now (a .row))) l (then1 .if1 .taken)
+      c .fault .ensures (recordOf (now (a .words))) l ∙ item-deep (now (a .f)) (a .levels) (a .at) (recordOf (now (a .words))) l (then1 .if1 .taken)
 
   item-pair-requires : item-lts.Need-pair-requires (item-claims t) (item-at t) item.Post
   item-pair-requires c κs =
@@ -81,8 +81,8 @@ module _ (t : ℕ) where
       in-item item-lts.Start × in-item item-lts.Else1 × in-item item-lts.After-token-at × in-item item-lts.After-enum-told = search in
       let a = start .args in
       let l = lists (now (a .bytes)) (atomSlots (now (a .starts)) (now (a .ends))) (pairSlots (now (a .firsts)) (now (a .rests))) in
-      c .fault2 .ensures (recordOf (now (a .row))) l
-      ∙ item-by (now (a .f)) (a .levels) (a .at) (recordOf (now (a .row))) l broken (else1 .if1 .left) (sym (ap tokenPaper (told .enum-told .given .1)) ∙ token-at .token-at .ensures)
+      c .fault2 .ensures (recordOf (now (a .words))) l
+      ∙ item-by (now (a .f)) (a .levels) (a .at) (recordOf (now (a .words))) l broken (else1 .if1 .left) (sym (ap tokenPaper (told .enum-told .given .1)) ∙ token-at .token-at .ensures)
 
   item-returns-3 : item-lts.Need-returns-3 (item-claims t) (item-at t) item.Post
   item-returns-3 c =
@@ -91,7 +91,7 @@ module _ (t : ℕ) where
       let a = start .args in
       let l = lists (now (a .bytes)) (atomSlots (now (a .starts)) (now (a .ends))) (pairSlots (now (a .firsts)) (now (a .rests))) in
       at-pair .pair .ensures
-      ∙ item-by (now (a .f)) (a .levels) (a .at) (recordOf (now (a .row))) l opening (else1 .if1 .left) (sym (ap tokenPaper (told2 .enum-told2 .given .1)) ∙ token-at .token-at .ensures)
+      ∙ item-by (now (a .f)) (a .levels) (a .at) (recordOf (now (a .words))) l opening (else1 .if1 .left) (sym (ap tokenPaper (told2 .enum-told2 .given .1)) ∙ token-at .token-at .ensures)
 
   item-returns-4 : item-lts.Need-returns-4 (item-claims t) (item-at t) item.Post
   item-returns-4 c =
@@ -100,8 +100,8 @@ module _ (t : ℕ) where
       let a = start .args in
       let l = lists (now (a .bytes)) (atomSlots (now (a .starts)) (now (a .ends))) (pairSlots (now (a .firsts)) (now (a .rests))) in
       let g = found .found .given in
-      atom-item .atom-item .ensures (pairSlots (now (a .firsts)) (now (a .rests)))
-      ∙ item-by (now (a .f)) (a .levels) (a .at) (recordOf (now (a .row))) l (string (g .0 .0) (g .0 .1 .0)) (else1 .if1 .left) (sym (ap tokenPaper (g .1)) ∙ token-at .token-at .ensures)
+      atom-item .atom-item .ensures (pairStore (pairSlots (now (a .firsts)) (now (a .rests))))
+      ∙ item-by (now (a .f)) (a .levels) (a .at) (recordOf (now (a .words))) l (string (g .0 .0) (g .0 .1 .0)) (else1 .if1 .left) (sym (ap tokenPaper (g .1)) ∙ token-at .token-at .ensures)
 
   abbrev in-pair : (pair-lts.Claims → In 7 pair-kinds.ps → Out 7 pair-kinds.ps pair-kinds.r → Type 0) → Type 0
   in-pair place = place (pair-claims t) (pair-at t) pair.Post
@@ -112,7 +112,7 @@ module _ (t : ℕ) where
       let a = start .args in
       let l = lists (now (a .bytes)) (atomSlots (now (a .starts)) (now (a .ends))) (pairSlots (now (a .firsts)) (now (a .rests))) in
       let i = at-item .item in
-      pair-first (Rule.item (now (a .f)) (a .levels)) (a .at) (recordOf (now (a .row))) l (i .result) (recordOf (i .last .1 .1 .1 .0)) (lists (i .last .1 .1 .1 .1 .0) (atomSlots (i .last .1 .1 .1 .1 .1 .0) (i .last .1 .1 .1 .1 .1 .1 .0)) (pairSlots (i .last .1 .1 .1 .1 .1 .1 .1 .0) (i .last .1 .1 .1 .1 .1 .1 .1 .1 .0)))
+      pair-first (Rule.item (now (a .f)) (a .levels)) (a .at) (recordOf (now (a .words))) l (i .result) (recordOf (i .last .1 .1 .1 .0)) (lists (i .last .1 .1 .1 .1 .0) (atomSlots (i .last .1 .1 .1 .1 .1 .0) (i .last .1 .1 .1 .1 .1 .1 .0)) (pairSlots (i .last .1 .1 .1 .1 .1 .1 .1 .0) (i .last .1 .1 .1 .1 .1 .1 .1 .1 .0)))
       (c .enum-told .given .0 .0) (c .enum-told .given .0 .1 .0) (i .ensures) (c .enum-told .given .1)
 
   pair-item-requires-2 : pair-lts.Need-item-requires-2 (pair-claims t) (pair-at t) pair.Post
@@ -157,7 +157,7 @@ module _ (t : ℕ) where
       let i = at-item .item in
       let g = head .head .given in
       let j = item2 .item2 in
-      pair-rest (Rule.item (now (a .f)) (a .levels)) (a .at) (recordOf (now (a .row))) l (i .result) (recordOf (i .last .1 .1 .1 .0)) (lists (i .last .1 .1 .1 .1 .0) (atomSlots (i .last .1 .1 .1 .1 .1 .0) (i .last .1 .1 .1 .1 .1 .1 .0)) (pairSlots (i .last .1 .1 .1 .1 .1 .1 .1 .0) (i .last .1 .1 .1 .1 .1 .1 .1 .1 .0))) (g .0 .0) (i .ensures) (g .1)
+      pair-rest (Rule.item (now (a .f)) (a .levels)) (a .at) (recordOf (now (a .words))) l (i .result) (recordOf (i .last .1 .1 .1 .0)) (lists (i .last .1 .1 .1 .1 .0) (atomSlots (i .last .1 .1 .1 .1 .1 .0) (i .last .1 .1 .1 .1 .1 .1 .0)) (pairSlots (i .last .1 .1 .1 .1 .1 .1 .1 .0) (i .last .1 .1 .1 .1 .1 .1 .1 .1 .0))) (g .0 .0) (i .ensures) (g .1)
       (j .result) (recordOf (j .last .1 .1 .1 .0)) (lists (j .last .1 .1 .1 .1 .0) (atomSlots (j .last .1 .1 .1 .1 .1 .0) (j .last .1 .1 .1 .1 .1 .1 .0)) (pairSlots (j .last .1 .1 .1 .1 .1 .1 .1 .0) (j .last .1 .1 .1 .1 .1 .1 .1 .1 .0))) (c .enum-told2 .given .0 .0) (c .enum-told2 .given .0 .1 .0) (j .ensures) (c .enum-told2 .given .1)
 
   abbrev bytes-of : in-pair pair-lts.After-bytes2 → in-pair pair-lts.After-bytes
@@ -240,7 +240,7 @@ module _ (t : ℕ) where
       let o = lists (j .last .1 .1 .1 .1 .0) (atomSlots (j .last .1 .1 .1 .1 .1 .0) (j .last .1 .1 .1 .1 .1 .1 .0)) (pairSlots (j .last .1 .1 .1 .1 .1 .1 .1 .0) (j .last .1 .1 .1 .1 .1 .1 .1 .1 .0)) in
       let h = tail .tail .given in
       pair-item .pair-item .ensures (store (o .bytes) (o .atoms))
-      ∙ pair-both (Rule.item (now (a .f)) (a .levels)) (a .at) (recordOf (now (a .row))) l (i .result) (recordOf (i .last .1 .1 .1 .0)) (lists (i .last .1 .1 .1 .1 .0) (atomSlots (i .last .1 .1 .1 .1 .1 .0) (i .last .1 .1 .1 .1 .1 .1 .0)) (pairSlots (i .last .1 .1 .1 .1 .1 .1 .1 .0) (i .last .1 .1 .1 .1 .1 .1 .1 .1 .0))) (g .0 .0) (i .ensures) (g .1)
+      ∙ pair-both (Rule.item (now (a .f)) (a .levels)) (a .at) (recordOf (now (a .words))) l (i .result) (recordOf (i .last .1 .1 .1 .0)) (lists (i .last .1 .1 .1 .1 .0) (atomSlots (i .last .1 .1 .1 .1 .1 .0) (i .last .1 .1 .1 .1 .1 .1 .0)) (pairSlots (i .last .1 .1 .1 .1 .1 .1 .1 .0) (i .last .1 .1 .1 .1 .1 .1 .1 .1 .0))) (g .0 .0) (i .ensures) (g .1)
       (j .result) (recordOf (j .last .1 .1 .1 .0)) o (h .0 .0) (j .ensures) (h .1)
 
 pub +item+pair-spec : {M : Type 1} → statement M

@@ -6,8 +6,8 @@ use denote.Ref.{now}
 use Rattle.rules.specs.State.{store, atomSlots}
 use Rattle.rules.specs.Creates.{newAtom}
 use Rattle.rules.proofs.Lists.{part-slice}
-use Rattle.rows.specs.Rows.{recordOf, rowed}
-use Rattle.load.proofs.Readings.{atom-row}
+use Rattle.words.specs.Words.{recordOf, inWords}
+use Rattle.load.proofs.Readings.{atom-words}
 use borrow.Author.Needs.{needs}
 use Rattle.load.proofs.atom_item.Statement.{statement}
 use Rattle.load.proofs.atom_item.Tie as tie
@@ -41,9 +41,9 @@ returns c p =
     let (start, new-atom) : tie.Start × tie.After-new-atom = search in
     let a = start .args in
     c .placed .ensures _ _
-    ∙ atom-row (a .at) (a .to) p _ _
+    ∙ atom-words (a .at) (a .to) p _ _
     (new-atom .new-atom .ensures
-    ∙ ap (λ (v : List ℕ). rowed (newAtom (recordOf (now (a .row))) v (store (now (a .bytes)) (atomSlots (now (a .starts)) (now (a .ends))))))
+    ∙ ap (λ (v : List ℕ). inWords (newAtom (recordOf (now (a .words))) v (store (now (a .bytes)) (atomSlots (now (a .starts)) (now (a .ends))))))
     (part-slice (a .from) (a .to) (now (a .f)) (start .pre .0)))
 
 pub atom-item-spec : {M : Type 1} → statement M

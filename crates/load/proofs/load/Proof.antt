@@ -7,7 +7,7 @@ use lib.ListN.{length}
 use Rattle.rules.specs.declared.Allocator.{Allocator}
 use Rattle.rules.specs.State.{lists, atomSlots, pairSlots}
 use Rattle.rules.specs.Load.{Reading, item, atEnd, orBack, levelsOf}
-use Rattle.rows.specs.Rows.{recordOf}
+use Rattle.words.specs.Words.{recordOf}
 use Rattle.load.specs.Readings.{readItem}
 use Rattle.load.proofs.Readings.{load-sound, load-unsound}
 use borrow.Author.Needs.{needs}
@@ -79,7 +79,7 @@ returns c =
     c .settled .ensures m
     ∙ ap (λ (b : Allocator). orBack (a .a) (atEnd (length (now (a .f))) (readItem (i .result) b m))) (at-record .«record» .ensures)
     ∙ ap (λ (r : Reading). orBack (a .a) (atEnd (length (now (a .f))) r))
-    (i .ensures ∙ ap (λ (row : List ℕ). item (now (a .f)) levelsOf 0 (recordOf row) l) (of-record .of-record .ensures))
+    (i .ensures ∙ ap (λ (words : List ℕ). item (now (a .f)) levelsOf 0 (recordOf words) l) (of-record .of-record .ensures))
     ∙ load-sound (now (a .f)) (a .a) l (sym (lists-sound .lists-sound .ensures) ∙ then1 .if1 .taken)
 
 refused-requires : tie.Need-refused-requires

@@ -1,6 +1,6 @@
 -- `pair_item` meets its contract. Assumes nothing.
 use mathlib.Core.Path.{_∙_}
-use Rattle.load.proofs.Readings.{pair-row}
+use Rattle.load.proofs.Readings.{pair-words}
 use borrow.Author.Needs.{needs}
 use Rattle.load.proofs.pair_item.Statement.{statement}
 use Rattle.load.proofs.pair_item.Tie as tie
@@ -21,7 +21,7 @@ returns : tie.Need-returns
 returns c s =
     let (start, new-pair) : tie.Start × tie.After-new-pair = search in
     let a = start .args in
-    c .placed .ensures _ _ ∙ pair-row (a .at) (a .next) s _ _ (new-pair .new-pair .ensures)
+    c .placed .ensures _ _ ∙ pair-words (a .at) (a .next) s _ _ (new-pair .new-pair .ensures)
 
 pub pair-item-spec : {M : Type 1} → statement M
 pair-item-spec =

@@ -1,4 +1,4 @@
--- `limit` meets its contract: the column 1 of the row. Assumes nothing.
+-- `limit` meets its contract: the column 1 of the entry. Assumes nothing.
 use Prim.Native.Nat.{ℕ}
 use mathlib.Core.Path.{ap}
 use mathlib.Core.List.{List}
@@ -7,14 +7,14 @@ use borrow.Author.Needs.{needs}
 use Rattle.prefix.proofs.limit.Statement.{statement}
 use Rattle.prefix.proofs.limit.Tie as tie
 
-row-requires : tie.Need-row-requires
-row-requires c κs = search needs
+entry-requires : tie.Need-entry-requires
+entry-requires c κs = search needs
 
 array-read-result : tie.Need-array-read-result
 array-read-result c = search needs
 
 returns : tie.Need-returns
-returns c = ap (λ (r : List ℕ). getD r 1 0) (c .row .ensures)
+returns c = ap (λ (r : List ℕ). getD r 1 0) (c .entry .ensures)
 
 pub limit-spec : {M : Type 1} → statement M
-limit-spec = tie.close (tie.spec row-requires array-read-result returns)
+limit-spec = tie.close (tie.spec entry-requires array-read-result returns)

@@ -6,7 +6,7 @@ use Rattle.reads.proofs.bytes_status.Statement.{statement}
 use Rattle.reads.proofs.bytes_status.Tie as tie
 use Rattle.reads.proofs.bytes_status.Reads as reads
 use Rattle.reads.proofs.bytes_status.Lts as lts
-use Rattle.reads.proofs.arg.wide.Reads as wide-reads
+use Rattle.node.proofs.wide.Reads as wide-reads
 use Rattle.state.proofs.sound.range_sound.Reads as range-sound-reads
 
 returns : tie.Need-returns

@@ -11,7 +11,7 @@ use Rattle.restores.proofs.restore_checkpoint.Tie as tie
 use Rattle.restores.proofs.restore_checkpoint.Reads as reads
 use Rattle.restores.proofs.restore_checkpoint.Lts as lts
 use Rattle.restores.proofs.course.usable.Reads as usable-reads
-use Rattle.creates.proofs.ghosts.refused.Reads as refused-reads
+use Rattle.state.proofs.refused.Reads as refused-reads
 use Rattle.state.proofs.record.cut_plain.Reads as cut-plain-reads
 use Rattle.state.proofs.sound.slots_sound.Reads as slots-sound-reads
 

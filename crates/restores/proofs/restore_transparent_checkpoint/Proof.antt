@@ -12,7 +12,7 @@ use Rattle.restores.proofs.restore_transparent_checkpoint.Tie as tie
 use Rattle.restores.proofs.restore_transparent_checkpoint.Reads as reads
 use Rattle.restores.proofs.restore_transparent_checkpoint.Lts as lts
 use Rattle.restores.proofs.course.usable.Reads as usable-reads
-use Rattle.creates.proofs.ghosts.refused.Reads as refused-reads
+use Rattle.state.proofs.refused.Reads as refused-reads
 use Rattle.state.proofs.record.cut.Reads as cut-reads
 use Rattle.state.proofs.sound.slots_sound.Reads as slots-sound-reads
 

@@ -23,7 +23,7 @@ in-range c =
     let a = s .args in
     let g = c .found .given in
     range-room (a .a) (atomSlots (a .starts .now) (a .ends .now)) (a .n) (a .bytes .now) (a .at) (g .0 .0) (g .0 .1 .0)
-    (sym (atom-of .atom-of .ensures) ∙ ap atomPaper (g .1)) (s .pre .0 .2) (s .pre .1)
+    (sym (atom-of .atom-of .ensures) ∙ ap atomPaper (g .1)) (s .pre .0 .1) (s .pre .1)
 
 atom-of-requires : tie.Need-atom-of-requires
 atom-of-requires c κs = search needs

@@ -29,7 +29,7 @@ copy-term-requires c κs =
     let (start, loop, in-loop) : tie.Start Inv-loop μ-loop × tie.At-loop Inv-loop μ-loop × tie.In-loop Inv-loop μ-loop = search in
     let a = start .args in
     let l = loop .loop in
-    ((start .pre .0 .0, start .pre .0 .1, l .inv .behind), copied-room (a .a) (store (a .bytes .now) (atomSlots (a .starts .now) (a .ends .now))) (a .nodes .now) (l .bytes) (l .at) (l .i) (l .inv) (in-loop .loop-test .taken))
+    ((start .pre .0, l .inv .behind), copied-room (a .a) (store (a .bytes .now) (atomSlots (a .starts .now) (a .ends .now))) (a .nodes .now) (l .bytes) (l .at) (l .i) (l .inv) (in-loop .loop-test .taken))
 
 add-i : tie.Need-add-i Inv-loop μ-loop
 add-i c = search needs

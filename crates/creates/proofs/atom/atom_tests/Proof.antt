@@ -8,27 +8,27 @@ use Rattle.creates.proofs.atom.atom_tests.Tie as tie
 use Rattle.creates.proofs.atom.atom_tests.Reads as reads
 use Rattle.creates.proofs.atom.atom_tests.Lts as lts
 use Rattle.creates.proofs.atom.limit_tests.Reads as limit-tests-reads
-use Rattle.state.proofs.sound.store_sound.Reads as store-sound-reads
+use Rattle.state.proofs.sound.bytes_sound.Reads as bytes-sound-reads
 
-store-sound-requires : tie.Need-store-sound-requires
-store-sound-requires c κs = search needs
+bytes-sound-requires : tie.Need-bytes-sound-requires
+bytes-sound-requires c κs = search needs
 
 limit-tests-requires : tie.Need-limit-tests-requires
 limit-tests-requires c κs =
-    let store-sound : tie.After-store-sound = search in
-    store-lent _ _ _ _ (sym (store-sound .store-sound .ensures) ∙ c .if1 .taken) .atoms .limits
+    let bytes-sound : tie.After-bytes-sound = search in
+    store-lent _ _ _ _ (sym (bytes-sound .bytes-sound .ensures) ∙ c .if1 .taken) .atoms .limits
 
 returns : tie.Need-returns
 unfolding need
 returns c =
-    let (store-sound, then1) : tie.After-store-sound × tie.Then1 = search in
-    simp (c .limit-tests .ensures, ← (store-sound .store-sound .ensures), then1 .if1 .taken)
+    let (bytes-sound, then1) : tie.After-bytes-sound × tie.Then1 = search in
+    simp (c .limit-tests .ensures, ← (bytes-sound .bytes-sound .ensures), then1 .if1 .taken)
 
 returns-2 : tie.Need-returns-2
 unfolding need
 returns-2 c =
-    let store-sound : tie.After-store-sound = search in
-    simp (← (store-sound .store-sound .ensures), c .if1 .left)
+    let bytes-sound : tie.After-bytes-sound = search in
+    simp (← (bytes-sound .bytes-sound .ensures), c .if1 .left)
 
 pub atom-tests-spec : {M : Type 1} → statement M
-atom-tests-spec = tie.close (tie.spec store-sound-requires limit-tests-requires returns returns-2)
+atom-tests-spec = tie.close (tie.spec bytes-sound-requires limit-tests-requires returns returns-2)

@@ -12,7 +12,7 @@ use Rattle.creates.proofs.ghosts.add_ghost_pair.Statement.{statement}
 use Rattle.creates.proofs.ghosts.add_ghost_pair.Tie as tie
 use Rattle.creates.proofs.ghosts.add_ghost_pair.Reads as reads
 use Rattle.creates.proofs.ghosts.add_ghost_pair.Lts as lts
-use Rattle.creates.proofs.ghosts.refused.Reads as refused-reads
+use Rattle.state.proofs.refused.Reads as refused-reads
 use Rattle.state.proofs.record.with_ghosts.Reads as with-ghosts-reads
 use Rattle.state.proofs.sound.limits_sound.Reads as limits-sound-reads
 use Rattle.state.proofs.sound.total.Reads as total-reads

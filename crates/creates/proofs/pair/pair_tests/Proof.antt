@@ -1,4 +1,6 @@
 -- `creates::pair::pair_tests` meets its contract. Assumes nothing.
+use mathlib.Core.Path.{_∙_}
+use Rattle.rules.proofs.Tests.{next-fits}
 use Rattle.rules.specs.State.{pairs}
 use Rattle.rules.specs.Said.{need}
 use borrow.Author.Tests.{lt-ltb, le-ltb}
@@ -9,7 +11,7 @@ use Rattle.creates.proofs.pair.pair_tests.Statement.{statement}
 use Rattle.creates.proofs.pair.pair_tests.Tie as tie
 use Rattle.creates.proofs.pair.pair_tests.Reads as reads
 use Rattle.creates.proofs.pair.pair_tests.Lts as lts
-use Rattle.creates.proofs.atom.slot_room.Reads as slot-room-reads
+use Rattle.state.proofs.sound.fit.Reads as fit-reads
 use Rattle.state.proofs.sound.pairs_sound.Reads as pairs-sound-reads
 use Rattle.state.proofs.sound.total.Reads as total-reads
 use Rattle.state.proofs.sound.valid.Reads as valid-reads
@@ -34,24 +36,29 @@ returns c =
     let h : 62500000 ≤ pairs (start .args .a) = omega arith in
     simp (← (pairs-sound .pairs-sound .ensures), then1 .if1 .taken, ← (valid .valid .ensures), then2 .if2 .taken, ← (valid2 .valid2 .ensures), then3 .if3 .taken, le-ltb _ _ h)
 
-slot-room-requires : tie.Need-slot-room-requires
-slot-room-requires c κs = search needs
+add-fit : tie.Need-add-fit
+add-fit c = search needs
+
+fit-requires : tie.Need-fit-requires
+fit-requires c κs = search needs
 
 returns-2 : tie.Need-returns-2
 unfolding need
 returns-2 c =
-    let (start, pairs-sound, then1, valid, then2, valid2, then3, slot-room) :
-    tie.Start × tie.After-pairs-sound × tie.Then1 × tie.After-valid × tie.Then2 × tie.After-valid2 × tie.Then3 × tie.After-slot-room = search in
-    let h : pairs (start .args .a) < 62500000 = omega arith in
-    simp (← (pairs-sound .pairs-sound .ensures), then1 .if1 .taken, ← (valid .valid .ensures), then2 .if2 .taken, ← (valid2 .valid2 .ensures), then3 .if3 .taken, lt-ltb _ _ h, ← (slot-room .slot-room .ensures), c .if5 .taken)
+    let (start, pairs-sound, then1, valid, then2, valid2, then3, fit) :
+    tie.Start × tie.After-pairs-sound × tie.Then1 × tie.After-valid × tie.Then2 × tie.After-valid2 × tie.Then3 × tie.After-fit = search in
+    let a = start .args in
+    let h : pairs (a .a) < 62500000 = omega arith in
+    simp (← (pairs-sound .pairs-sound .ensures), then1 .if1 .taken, ← (valid .valid .ensures), then2 .if2 .taken, ← (valid2 .valid2 .ensures), then3 .if3 .taken, lt-ltb _ _ h, ← (fit .fit .ensures ∙ next-fits (a .a .used .pairs) (a .firsts) (a .rests)), c .if5 .taken)
 
 returns-3 : tie.Need-returns-3
 unfolding need
 returns-3 c =
-    let (start, pairs-sound, then1, valid, then2, valid2, then3, slot-room) :
-    tie.Start × tie.After-pairs-sound × tie.Then1 × tie.After-valid × tie.Then2 × tie.After-valid2 × tie.Then3 × tie.After-slot-room = search in
-    let h : pairs (start .args .a) < 62500000 = omega arith in
-    simp (← (pairs-sound .pairs-sound .ensures), then1 .if1 .taken, ← (valid .valid .ensures), then2 .if2 .taken, ← (valid2 .valid2 .ensures), then3 .if3 .taken, lt-ltb _ _ h, ← (slot-room .slot-room .ensures), c .if5 .left)
+    let (start, pairs-sound, then1, valid, then2, valid2, then3, fit) :
+    tie.Start × tie.After-pairs-sound × tie.Then1 × tie.After-valid × tie.Then2 × tie.After-valid2 × tie.Then3 × tie.After-fit = search in
+    let a = start .args in
+    let h : pairs (a .a) < 62500000 = omega arith in
+    simp (← (pairs-sound .pairs-sound .ensures), then1 .if1 .taken, ← (valid .valid .ensures), then2 .if2 .taken, ← (valid2 .valid2 .ensures), then3 .if3 .taken, lt-ltb _ _ h, ← (fit .fit .ensures ∙ next-fits (a .a .used .pairs) (a .firsts) (a .rests)), c .if5 .left)
 
 returns-4 : tie.Need-returns-4
 unfolding need
@@ -80,7 +87,8 @@ pair-tests-spec =
     valid-requires-2
     total-requires
     returns
-    slot-room-requires
+    add-fit
+    fit-requires
     returns-2
     returns-3
     returns-4

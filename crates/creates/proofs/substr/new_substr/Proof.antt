@@ -16,7 +16,7 @@ use Rattle.creates.proofs.refused.Reads as refused-reads
 use Rattle.creates.proofs.substr.part_of_small.Reads as part-of-small-reads
 use Rattle.creates.proofs.substr.share_range.Reads as share-range-reads
 use Rattle.creates.proofs.substr.substr_tests.Reads as substr-tests-reads
-use Rattle.reads.proofs.arg.wide.Reads as wide-reads
+use Rattle.node.proofs.wide.Reads as wide-reads
 
 -- what the tests told of a Bytes atom, and of a small one
 ranged : (c : tie.After-found2) →

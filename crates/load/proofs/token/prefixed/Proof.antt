@@ -33,26 +33,26 @@ cast-first c =
     let start : tie.Start = search in
     omega (arith, c .shared-slice-known2 .given (start .args .at))
 
-mark-requires : tie.Need-mark-requires
-mark-requires c κs = search needs
+base-requires : tie.Need-base-requires
+base-requires c κs = search needs
 
 sub-first : tie.Need-sub-first
 sub-first c = search needs
 
-add-number : tie.Need-add-number
-add-number c = search needs
+add-read-be : tie.Need-add-read-be
+add-read-be c = search needs
 
-sub-number : tie.Need-sub-number
-sub-number c = search needs
+sub-read-be : tie.Need-sub-read-be
+sub-read-be c = search needs
 
-part-number-start : tie.Need-part-number-start
-part-number-start c = search needs
+part-read-be-start : tie.Need-part-read-be-start
+part-read-be-start c = search needs
 
-part-number-end : tie.Need-part-number-end
-part-number-end c = search needs
+part-read-be-end : tie.Need-part-read-be-end
+part-read-be-end c = search needs
 
-number-requires : tie.Need-number-requires
-number-requires c κs =
+read-be-requires : tie.Need-read-be-requires
+read-be-requires c κs =
     let (start, shared-slice-known2) : tie.Start × tie.After-shared-slice-known2 = search in
     let a = start .args in
     let n : ℕ = a .at + 1 + a .k - (a .at + 1) in
@@ -60,20 +60,20 @@ number-requires c κs =
 
 returns-2 : tie.Need-returns-2
 returns-2 c =
-    let (start, mark, number) : tie.Start × tie.After-mark × tie.After-number = search in
+    let (start, base, read-be) : tie.Start × tie.After-base × tie.After-read-be = search in
     let a = start .args in
-    bytes-cut (now (a .f)) (a .at) (a .k) (number .number .result) (omega arith)
-    (length-is (now (a .f)) (a .at) (a .k) (number .number .result) (mark .mark .result) (number .number .ensures) (mark .mark .ensures)) (omega arith)
+    bytes-cut (now (a .f)) (a .at) (a .k) (read-be .read-be .result) (omega arith)
+    (length-is (now (a .f)) (a .at) (a .k) (read-be .read-be .result) (base .base .result) (read-be .read-be .ensures) (base .base .ensures)) (omega arith)
 
 add-t8 : tie.Need-add-t8
 add-t8 c = search needs
 
 returns-3 : tie.Need-returns-3
 returns-3 c =
-    let (start, mark, number) : tie.Start × tie.After-mark × tie.After-number = search in
+    let (start, base, read-be) : tie.Start × tie.After-base × tie.After-read-be = search in
     let a = start .args in
-    bytes-in (now (a .f)) (a .at) (a .k) (number .number .result) (omega arith)
-    (length-is (now (a .f)) (a .at) (a .k) (number .number .result) (mark .mark .result) (number .number .ensures) (mark .mark .ensures)) (omega arith)
+    bytes-in (now (a .f)) (a .at) (a .k) (read-be .read-be .result) (omega arith)
+    (length-is (now (a .f)) (a .at) (a .k) (read-be .read-be .result) (base .base .result) (read-be .read-be .ensures) (base .base .ensures)) (omega arith)
 
 pub prefixed-spec : {M : Type 1} → statement M
 prefixed-spec =
@@ -86,13 +86,13 @@ prefixed-spec =
     add-from-2
     shared-slice-read-first
     cast-first
-    mark-requires
+    base-requires
     sub-first
-    add-number
-    sub-number
-    part-number-start
-    part-number-end
-    number-requires
+    add-read-be
+    sub-read-be
+    part-read-be-start
+    part-read-be-end
+    read-be-requires
     returns-2
     add-t8
     returns-3)

@@ -7,7 +7,7 @@ use Rattle.reads.proofs.arg.slot.Statement.{statement}
 use Rattle.reads.proofs.arg.slot.Tie as tie
 use Rattle.reads.proofs.arg.slot.Reads as reads
 use Rattle.reads.proofs.arg.slot.Lts as lts
-use Rattle.reads.proofs.arg.wide.Reads as wide-reads
+use Rattle.node.proofs.wide.Reads as wide-reads
 use Rattle.state.proofs.sound.range_sound.Reads as range-sound-reads
 
 returns : tie.Need-returns

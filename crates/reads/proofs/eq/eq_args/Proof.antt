@@ -7,7 +7,7 @@ use lib.ListN.{length}
 use Rattle.rules.specs.Paper.{argPaper}
 use Rattle.rules.specs.Reads.{bytesArg, smallArg, range, value}
 use Rattle.rules.proofs.Lists.{part-slice}
-use Rattle.reads.specs.Parts.{Inside}
+use Rattle.rules.proofs.Args.{Inside}
 use Rattle.reads.proofs.Laws.{eq-left}
 use Rattle.reads.proofs.eq.eq_args.Statement.{statement}
 use Rattle.reads.proofs.eq.eq_args.Tie as tie

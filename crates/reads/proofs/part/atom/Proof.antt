@@ -16,14 +16,14 @@ range-in : (c : tie.After-part) →
     let r = c .part .given .0 in (r .0 ≤ r .1 .0) × (r .1 .0 ≤ length (start .args .bytes .now))
 range-in c =
     let part-of : tie.After-part-of = search in
-    part-says _ _ _ _ _ (sym (part-of .part-of .ensures) ∙ ap atomPaper (c .part .given .1))
+    part-says _ _ _ _ _ _ (sym (part-of .part-of .ensures) ∙ ap atomPaper (c .part .given .1))
 
 value-in : (c : tie.After-part2) →
     let start : tie.Start = search in
     (c .part2 .given .0 .0 < 67108864) × (length (start .args .scratch .now) ≡ 4)
 value-in c =
     let part-of : tie.After-part-of = search in
-    part-says _ _ _ _ _ (sym (part-of .part-of .ensures) ∙ ap atomPaper (c .part2 .given .1))
+    part-says _ _ _ _ _ _ (sym (part-of .part-of .ensures) ∙ ap atomPaper (c .part2 .given .1))
 
 sub-result : tie.Need-sub-result
 sub-result c = omega (arith, range-in (search))

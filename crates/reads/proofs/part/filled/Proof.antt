@@ -13,7 +13,7 @@ four : (c : tie.After-part2) →
     length (start .args .scratch .now) ≡ 4
 four c =
     let part-of : tie.After-part-of = search in
-    part-says _ _ _ _ _ (sym (part-of .part-of .ensures) ∙ ap atomPaper (c .part2 .given .1)) .1
+    part-says _ _ _ _ _ _ (sym (part-of .part-of .ensures) ∙ ap atomPaper (c .part2 .given .1)) .1
 
 put-be-requires : tie.Need-put-be-requires
 put-be-requires c κs = omega (arith, four (search))

@@ -1,9 +1,7 @@
 -- `restores::course::course_of` meets its contract: the tests in document 01's order. Assumes nothing.
-use Rattle.runs.proofs.Tests.{usable→}
 use Rattle.rules.proofs.Sound.{lists-lent}
 use Rattle.rules.proofs.Tests.{both}
 use Rattle.rules.specs.Restores.{course, savings}
-use Rattle.rules.specs.State.{atomSlots, pairSlots}
 use Rattle.rules.specs.Said.{need}
 use borrow.Author.Tests.{lt-ltb, le-ltb}
 use native.Mathlib.Omega.{arith}
@@ -14,7 +12,7 @@ use Rattle.restores.proofs.course.course_of.Tie as tie
 use Rattle.restores.proofs.course.course_of.Reads as reads
 use Rattle.restores.proofs.course.course_of.Lts as lts
 use Rattle.restores.proofs.course.node_course.Reads as node-course-reads
-use Rattle.restores.proofs.course.savings.Reads as savings-reads
+use Rattle.state.proofs.record.savings.Reads as savings-reads
 use Rattle.restores.proofs.course.usable.Reads as usable-reads
 use Rattle.state.proofs.sound.lists_sound.Reads as lists-sound-reads
 
@@ -28,16 +26,14 @@ usable-requires c κs =
 
 savings-requires : tie.Need-savings-requires
 savings-requires c κs =
-    let (start, lists-sound, then1, usable) : tie.Start × tie.After-lists-sound × tie.Then1 × tie.After-usable = search in
-    let s = start .args in
-    let u = usable→ (s .k) (s .a) (atomSlots (s .starts .now) (s .ends .now)) (pairSlots (s .firsts .now) (s .rests .now)) (sym (usable .usable .ensures) ∙ c .if2 .taken) in
-    (lists-lent _ _ _ _ _ _ (sym (lists-sound .lists-sound .ensures) ∙ then1 .if1 .taken) .slots .atoms .limits, (u .bytes, u .atoms, u .pairs))
+    let (lists-sound, then1) : tie.After-lists-sound × tie.Then1 = search in
+    lists-lent _ _ _ _ _ _ (sym (lists-sound .lists-sound .ensures) ∙ then1 .if1 .taken) .slots .atoms .limits
 
 returns : tie.Need-returns
 unfolding course need
 returns c =
     let (lists-sound, then1, usable, then2, at-savings) : tie.After-lists-sound × tie.Then1 × tie.After-usable × tie.Then2 × tie.After-savings = search in
-    simp (← (lists-sound .lists-sound .ensures), then1 .if1 .taken, ← (usable .usable .ensures), then2 .if2 .taken, lt-ltb _ _ (rw (at-savings .savings .ensures) at (c .if3 .taken)))
+    simp (← (lists-sound .lists-sound .ensures), then1 .if1 .taken, ← (usable .usable .ensures), then2 .if2 .taken, lt-ltb _ _ (rw (at-savings .savings .ensures .0) at (c .if3 .taken)))
 
 node-course-requires : tie.Need-node-course-requires
 node-course-requires c κs =
@@ -49,7 +45,7 @@ unfolding course need
 returns-2 c =
     let (lists-sound, then1, usable, then2, at-savings, else3) :
     tie.After-lists-sound × tie.Then1 × tie.After-usable × tie.Then2 × tie.After-savings × tie.Else3 = search in
-    simp (← (lists-sound .lists-sound .ensures), then1 .if1 .taken, ← (usable .usable .ensures), then2 .if2 .taken, le-ltb _ _ (rw (at-savings .savings .ensures) at (else3 .if3 .left)), c .node-course .ensures)
+    simp (← (lists-sound .lists-sound .ensures), then1 .if1 .taken, ← (usable .usable .ensures), then2 .if2 .taken, le-ltb _ _ (rw (at-savings .savings .ensures .0) at (else3 .if3 .left)), c .node-course .ensures)
 
 returns-3 : tie.Need-returns-3
 unfolding course need

@@ -2,12 +2,12 @@
 use Prim.Native.Nat.{_+_, _≤_}
 use native.Mathlib.Omega.{arith}
 use lib.ListN.{length}
-use Rattle.save.proofs.Prefixes.{Marks, mark-fits, byte-fits, marked}
+use Rattle.save.proofs.Prefixes.{FirstFits, base-fits, byte-fits, first-put}
 use borrow.Author.Needs.{needs}
 use Rattle.save.proofs.atom.put_prefix.Statement.{statement}
 use Rattle.save.proofs.atom.put_prefix.Tie as tie
 
-room : (c : tie.After-mark) →
+room : (c : tie.After-base) →
     let (start, extra-for) : tie.Start × tie.After-extra-for = search in
     start .args .at + (1 + extra-for .extra-for .result) ≤ length (start .args .file .now)
 room c =
@@ -16,10 +16,10 @@ room c =
 
 fits : (c : tie.After-extra-for) →
     let start : tie.Start = search in
-    Marks (start .args .len) (c .extra-for .result)
+    FirstFits (start .args .len) (c .extra-for .result)
 fits c =
     let start : tie.Start = search in
-    rw (c .extra-for .ensures .0) (mark-fits (start .args .len) (start .pre .0))
+    rw (c .extra-for .ensures .0) (base-fits (start .args .len) (start .pre .0))
 
 extra-for-requires : tie.Need-extra-for-requires
 extra-for-requires c κs = search needs
@@ -42,17 +42,17 @@ put-be-requires c κs = search needs
 slice-read-file : tie.Need-slice-read-file
 slice-read-file c = search needs
 
-mark-requires : tie.Need-mark-requires
-mark-requires c κs = search needs
+base-requires : tie.Need-base-requires
+base-requires c κs = search needs
 
 cast-file : tie.Need-cast-file
-cast-file c = omega (arith, fits (search), c .mark .ensures)
+cast-file c = omega (arith, fits (search), c .base .ensures)
 
 add-file : tie.Need-add-file
 add-file c =
     let (start, extra-for, put-be) : tie.Start × tie.After-extra-for × tie.After-put-be = search in
     let a = start .args in
-    omega (arith, byte-fits (a .file .now) (put-be .put-be .last .0) (a .at) (extra-for .extra-for .result) (a .len) (c .mark .result) (room c) (put-be .put-be .ensures) (fits extra-for) (c .mark .ensures))
+    omega (arith, byte-fits (a .file .now) (put-be .put-be .last .0) (a .at) (extra-for .extra-for .result) (a .len) (c .base .result) (room c) (put-be .put-be .ensures) (fits extra-for) (c .base .ensures))
 
 slice-write-file : tie.Need-slice-write-file
 slice-write-file c = search needs
@@ -71,7 +71,7 @@ returns c =
     let (start, extra-for, put-be) : tie.Start × tie.After-extra-for × tie.After-put-be = search in
     let a = start .args in
     let k = extra-for .extra-for .ensures .0 in (
-      rw (← k) (marked (a .file .now) (put-be .put-be .last .0) (a .at) (extra-for .extra-for .result) (a .len) (c .mark .result) (room c) (put-be .put-be .ensures) (fits extra-for) (c .mark .ensures)),
+      rw (← k) (first-put (a .file .now) (put-be .put-be .last .0) (a .at) (extra-for .extra-for .result) (a .len) (c .base .result) (room c) (put-be .put-be .ensures) (fits extra-for) (c .base .ensures)),
       omega (arith, k),
     )
 
@@ -86,7 +86,7 @@ put-prefix-spec =
     add-put-be
     put-be-requires
     slice-read-file
-    mark-requires
+    base-requires
     cast-file
     add-file
     slice-write-file

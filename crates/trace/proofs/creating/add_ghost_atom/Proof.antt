@@ -1,5 +1,6 @@
 -- `trace::creating::add_ghost_atom` meets its contract: the payload's length, then the call. Assumes nothing.
-use Rattle.trace.specs.Machine.{alone, didChange}
+use Rattle.rules.specs.Whole.{alone}
+use Rattle.trace.specs.Machine.{stateOf, shows, didChange}
 use borrow.Author.Tests.{eq-eqb, ne-eqb}
 use mathlib.Core.Path.{ap}
 use borrow.Author.Needs.{needs}
@@ -32,7 +33,7 @@ change-requires c κs = search needs
 returns-2 : tie.Need-returns-2
 returns-2 c =
     let (start, else1, u64-at, add-ghost-atom) : tie.Start × tie.Else1 × tie.After-u64-at × tie.After-add-ghost-atom = search in
-    λ l. simp (eq-eqb _ _ (else1 .if1 .left), c .change .ensures, ← (u64-at .u64-at .ensures)) (ap (alone (didChange (start .args .m)) l) (add-ghost-atom .add-ghost-atom .ensures))
+    λ l. simp (eq-eqb _ _ (else1 .if1 .left), c .change .ensures, ← (u64-at .u64-at .ensures)) (ap (λ o. shows (didChange (start .args .m)) (alone (stateOf (start .args .m) l) o)) (add-ghost-atom .add-ghost-atom .ensures))
 
 pub add-ghost-atom-spec : {M : Type 1} → statement M
 add-ghost-atom-spec =

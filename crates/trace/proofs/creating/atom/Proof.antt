@@ -1,5 +1,6 @@
 -- `trace::creating::atom` meets its contract: what the call leaves. Assumes nothing.
-use Rattle.trace.specs.Machine.{onStore, didMake}
+use Rattle.rules.specs.Whole.{onStore}
+use Rattle.trace.specs.Machine.{stateOf, shows, didMake}
 use Rattle.rules.specs.State.{lists, atomSlots}
 use mathlib.Core.Path.{ap}
 use borrow.Author.Needs.{needs}
@@ -28,7 +29,7 @@ same-length-3 c = search needs
 returns : tie.Need-returns
 returns c =
     let (start, new-atom) : tie.Start × tie.After-new-atom = search in
-    λ q. simp (c .make .ensures) (ap (onStore (didMake (start .args .m)) (lists (start .args .bytes .now) (atomSlots (start .args .starts .now) (start .args .ends .now)) q)) (new-atom .new-atom .ensures))
+    λ q. simp (c .make .ensures) (ap (λ o. shows (didMake (start .args .m)) (onStore (stateOf (start .args .m) (lists (start .args .bytes .now) (atomSlots (start .args .starts .now) (start .args .ends .now)) q)) o)) (new-atom .new-atom .ensures))
 
 pub atom-spec : {M : Type 1} → statement M
 atom-spec =

@@ -1,5 +1,6 @@
 -- `trace::creating::pair` meets its contract: the payload's length, then the call. Assumes nothing.
-use Rattle.trace.specs.Machine.{onPairs, didMake}
+use Rattle.rules.specs.Whole.{onPairs}
+use Rattle.trace.specs.Machine.{stateOf, shows, didMake}
 use Rattle.rules.specs.State.{lists, pairSlots}
 use borrow.Author.Tests.{eq-eqb, ne-eqb}
 use mathlib.Core.Path.{ap}
@@ -42,7 +43,7 @@ same-length-2 c = search needs
 returns-2 : tie.Need-returns-2
 returns-2 c =
     let (start, else1, u32-at, u32-at2, new-pair) : tie.Start × tie.Else1 × tie.After-u32-at × tie.After-u32-at2 × tie.After-new-pair = search in
-    λ b t. simp (eq-eqb _ _ (else1 .if1 .left), c .make .ensures, ← (u32-at .u32-at .ensures), ← (u32-at2 .u32-at2 .ensures)) (ap (onPairs (didMake (start .args .m)) (lists b t (pairSlots (start .args .firsts .now) (start .args .rests .now)))) (new-pair .new-pair .ensures))
+    λ b t. simp (eq-eqb _ _ (else1 .if1 .left), c .make .ensures, ← (u32-at .u32-at .ensures), ← (u32-at2 .u32-at2 .ensures)) (ap (λ o. shows (didMake (start .args .m)) (onPairs (stateOf (start .args .m) (lists b t (pairSlots (start .args .firsts .now) (start .args .rests .now)))) o)) (new-pair .new-pair .ensures))
 
 pub pair-spec : {M : Type 1} → statement M
 pair-spec =

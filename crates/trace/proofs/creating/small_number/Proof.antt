@@ -1,5 +1,6 @@
 -- `trace::creating::small_number` meets its contract: the payload's length, then the call. Assumes nothing.
-use Rattle.trace.specs.Machine.{alone, didMake}
+use Rattle.rules.specs.Whole.{alone}
+use Rattle.trace.specs.Machine.{stateOf, shows, didMake}
 use borrow.Author.Tests.{eq-eqb, ne-eqb}
 use mathlib.Core.Path.{ap}
 use borrow.Author.Needs.{needs}
@@ -32,7 +33,7 @@ make-requires c κs = search needs
 returns-2 : tie.Need-returns-2
 returns-2 c =
     let (start, else1, u32-at, new-small-number) : tie.Start × tie.Else1 × tie.After-u32-at × tie.After-new-small-number = search in
-    λ l. simp (eq-eqb _ _ (else1 .if1 .left), c .make .ensures, ← (u32-at .u32-at .ensures)) (ap (alone (didMake (start .args .m)) l) (new-small-number .new-small-number .ensures))
+    λ l. simp (eq-eqb _ _ (else1 .if1 .left), c .make .ensures, ← (u32-at .u32-at .ensures)) (ap (λ o. shows (didMake (start .args .m)) (alone (stateOf (start .args .m) l) o)) (new-small-number .new-small-number .ensures))
 
 pub small-number-spec : {M : Type 1} → statement M
 small-number-spec =

@@ -15,11 +15,11 @@ returns c =
     let then1 : tie.Then1 = search in
     simp (c .refuse .ensures, le-ltb _ _ (then1 .if1 .taken))
 
-mul-marks : tie.Need-mul-marks
-mul-marks c = search needs
+mul-checkpoints : tie.Need-mul-checkpoints
+mul-checkpoints c = search needs
 
-array-set-from-marks : tie.Need-array-set-from-marks
-array-set-from-marks c = search needs
+array-set-from-checkpoints : tie.Need-array-set-from-checkpoints
+array-set-from-checkpoints c = search needs
 
 add-t8 : tie.Need-add-t8
 add-t8 c = search needs
@@ -31,4 +31,4 @@ returns-2 c =
 
 pub keep-spec : {M : Type 1} → statement M
 keep-spec =
-    tie.close (tie.spec refuse-requires returns mul-marks array-set-from-marks add-t8 returns-2)
+    tie.close (tie.spec refuse-requires returns mul-checkpoints array-set-from-checkpoints add-t8 returns-2)

@@ -4,18 +4,18 @@ use Rattle.trace.proofs.machine.with_restored.Statement.{statement}
 use Rattle.trace.proofs.machine.with_restored.Tie as tie
 use Rattle.trace.proofs.machine.with_restored.Reads as reads
 use Rattle.trace.proofs.machine.with_restored.Lts as lts
-use Rattle.trace.proofs.machine.saved.Reads as saved-reads
+use Rattle.state.proofs.record.savings.Reads as savings-reads
 
-saved-requires : tie.Need-saved-requires
-saved-requires c κs = search needs
+savings-requires : tie.Need-savings-requires
+savings-requires c κs = search needs
 
 add-released : tie.Need-add-released
 add-released c = search needs
 
 returns : tie.Need-returns
 returns c =
-    let saved : tie.After-saved = search in
-    simp (saved .saved .ensures .0)
+    let savings : tie.After-savings = search in
+    simp (savings .savings .ensures .0)
 
 pub with-restored-spec : {M : Type 1} → statement M
-with-restored-spec = tie.close (tie.spec saved-requires add-released returns)
+with-restored-spec = tie.close (tie.spec savings-requires add-released returns)

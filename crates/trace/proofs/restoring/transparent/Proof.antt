@@ -1,5 +1,6 @@
 -- `trace::restoring::transparent` meets its contract: the payload's length, the number, then the call. Assumes nothing.
-use Rattle.trace.specs.Machine.{alone, didRestore, markAt}
+use Rattle.rules.specs.Whole.{alone}
+use Rattle.trace.specs.Machine.{stateOf, shows, didRestore, checkpointAt}
 use Rattle.rules.specs.State.{lists, atomSlots, pairSlots}
 use borrow.Author.Tests.{lt-ltb, le-ltb, eq-eqb, ne-eqb}
 use mathlib.Core.Path.{ap}
@@ -50,7 +51,7 @@ returns-3 c =
     let (start, else1, u16-at, else2, restore-transparent-checkpoint) :
     tie.Start × tie.Else1 × tie.After-u16-at × tie.Else2 × tie.After-restore-transparent-checkpoint = search in
     let s = start .args in
-    λ b. simp (eq-eqb _ _ (else1 .if1 .left), ← (u16-at .u16-at .ensures .0), lt-ltb _ _ (else2 .if2 .left), c .back .ensures) (ap (alone (didRestore (s .t1) (markAt (s .t1) (u16-at .u16-at .result) .used)) (lists b (atomSlots (s .starts .now) (s .ends .now)) (pairSlots (s .firsts .now) (s .rests .now)))) (restore-transparent-checkpoint .restore-transparent-checkpoint .ensures))
+    λ b. simp (eq-eqb _ _ (else1 .if1 .left), ← (u16-at .u16-at .ensures .0), lt-ltb _ _ (else2 .if2 .left), c .back .ensures) (ap (λ o. shows (didRestore (s .t1) (checkpointAt (s .t1) (u16-at .u16-at .result) .used)) (alone (stateOf (s .t1) (lists b (atomSlots (s .starts .now) (s .ends .now)) (pairSlots (s .firsts .now) (s .rests .now)))) o)) (restore-transparent-checkpoint .restore-transparent-checkpoint .ensures))
 
 pub transparent-spec : {M : Type 1} → statement M
 transparent-spec =

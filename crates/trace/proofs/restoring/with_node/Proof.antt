@@ -1,5 +1,6 @@
 -- `trace::restoring::with_node` meets its contract: the payload's length, the number, then the call. Assumes nothing.
-use Rattle.trace.specs.Machine.{onStore, didMaybe, markAt}
+use Rattle.rules.specs.Whole.{onStore}
+use Rattle.trace.specs.Machine.{stateOf, shows, didMaybe, checkpointAt}
 use Rattle.rules.specs.State.{lists, atomSlots, pairSlots}
 use borrow.Author.Tests.{lt-ltb, le-ltb, eq-eqb, ne-eqb}
 use mathlib.Core.Path.{ap}
@@ -66,7 +67,7 @@ returns-3 c =
     let maybe-restore-with-node : tie.After-maybe-restore-with-node = search in
     let (start, else1, u16-at, else2, u32-at) = earlier maybe-restore-with-node in
     let s = start .args in
-    simp (eq-eqb _ _ (else1 .if1 .left), ← (u16-at .u16-at .ensures .0), ← (u32-at .u32-at .ensures), lt-ltb _ _ (else2 .if2 .left), c .maybe .ensures) (ap (onStore (didMaybe (s .t1) (markAt (s .t1) (u16-at .u16-at .result) .used) (u32-at .u32-at .result)) (lists (s .bytes .now) (atomSlots (s .starts .now) (s .ends .now)) (pairSlots (s .firsts .now) (s .rests .now)))) (maybe-restore-with-node .maybe-restore-with-node .ensures))
+    simp (eq-eqb _ _ (else1 .if1 .left), ← (u16-at .u16-at .ensures .0), ← (u32-at .u32-at .ensures), lt-ltb _ _ (else2 .if2 .left), c .maybe .ensures) (ap (λ o. shows (didMaybe (s .t1) (checkpointAt (s .t1) (u16-at .u16-at .result) .used) (u32-at .u32-at .result)) (onStore (stateOf (s .t1) (lists (s .bytes .now) (atomSlots (s .starts .now) (s .ends .now)) (pairSlots (s .firsts .now) (s .rests .now)))) o)) (maybe-restore-with-node .maybe-restore-with-node .ensures))
 
 pub with-node-spec : {M : Type 1} → statement M
 with-node-spec =

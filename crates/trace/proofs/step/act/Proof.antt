@@ -9,7 +9,7 @@ use Rattle.trace.proofs.step.act.Reads as reads
 use Rattle.trace.proofs.step.act.Lts as lts
 use Rattle.trace.proofs.creating.atom.Reads as atom-reads
 use Rattle.trace.proofs.creating.concat.Reads as concat-reads
-use Rattle.trace.proofs.creating.mark.Reads as mark-reads
+use Rattle.trace.proofs.creating.checkpoint.Reads as checkpoint-reads
 use Rattle.trace.proofs.creating.pair.Reads as pair-reads
 use Rattle.trace.proofs.creating.small_number.Reads as small-number-reads
 use Rattle.trace.proofs.creating.substr.Reads as substr-reads
@@ -93,14 +93,14 @@ returns-5 c =
     let (start, else1, else2, else3, else4, then5) : tie.Start × tie.Else1 × tie.Else2 × tie.Else3 × tie.Else4 × tie.Then5 = search in
     simp (ne-eqb _ _ (else1 .if1 .left), ne-eqb _ _ (else2 .if2 .left), ne-eqb _ _ (else3 .if3 .left), ne-eqb _ _ (else4 .if4 .left), eq-eqb _ _ (then5 .if5 .taken)) (c .small-number .ensures (lists (start .args .bytes .now) (atomSlots (start .args .starts .now) (start .args .ends .now)) (pairSlots (start .args .firsts .now) (start .args .rests .now))))
 
-mark-requires : tie.Need-mark-requires
-mark-requires c κs = search needs
+checkpoint-requires : tie.Need-checkpoint-requires
+checkpoint-requires c κs = search needs
 
 returns-6 : tie.Need-returns-6
 unfolding requestOf
 returns-6 c =
     let (start, else1, else2, else3, else4, else5, then6) : tie.Start × tie.Else1 × tie.Else2 × tie.Else3 × tie.Else4 × tie.Else5 × tie.Then6 = search in
-    simp (ne-eqb _ _ (else1 .if1 .left), ne-eqb _ _ (else2 .if2 .left), ne-eqb _ _ (else3 .if3 .left), ne-eqb _ _ (else4 .if4 .left), ne-eqb _ _ (else5 .if5 .left), eq-eqb _ _ (then6 .if6 .taken)) (c .mark .ensures (lists (start .args .bytes .now) (atomSlots (start .args .starts .now) (start .args .ends .now)) (pairSlots (start .args .firsts .now) (start .args .rests .now))))
+    simp (ne-eqb _ _ (else1 .if1 .left), ne-eqb _ _ (else2 .if2 .left), ne-eqb _ _ (else3 .if3 .left), ne-eqb _ _ (else4 .if4 .left), ne-eqb _ _ (else5 .if5 .left), eq-eqb _ _ (then6 .if6 .taken)) (c .checkpoint .ensures (lists (start .args .bytes .now) (atomSlots (start .args .starts .now) (start .args .ends .now)) (pairSlots (start .args .firsts .now) (start .args .rests .now))))
 
 act-later-requires : tie.Need-act-later-requires
 act-later-requires c κs = search needs
@@ -152,7 +152,7 @@ act-spec =
     returns-4
     small-number-requires
     returns-5
-    mark-requires
+    checkpoint-requires
     returns-6
     act-later-requires
     same-length-12

@@ -1,0 +1,1 @@
+// Theorems about integers that are written and read back: no code stands here.

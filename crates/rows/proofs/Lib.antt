@@ -1,2 +1,0 @@
--- The law of calls on a row.
-pub mod Rowed

@@ -1,0 +1,2 @@
+-- The law of calls on words.
+pub mod InWords
