@@ -1,12 +1,11 @@
 -- Bytes written over a list from an index on: what a copy leaves, and two writes one behind the other. Assumes nothing.
 use Prim.Native.Nat.{ℕ, _+_, _-_, _≤_, _<_}
 use mathlib.Core.Path.{_≡_, sym, ap, _∙_}
-use mathlib.Core.List.{List, [], _++_, append-assoc, append-nil}
+use mathlib.Core.List.{List, _++_, append-assoc}
 use native.Mathlib.Numerals.{add-one}
 use native.Mathlib.Omega.{arith}
-use borrow.Rule.Slice.PartMut.{putMid}
-use lib.ListN.{length, take, drop, getD, set, take-append-drop, length-append, length-take, length-drop, drop-of-length-le, List·getD-append}
-use lib.Seq.{slice, length-slice, length-take-le, take-all, take-length, take-take, drop-drop, take-at, drop-at, take-append-le, getD-take, getD-drop, paste, paste-suc}
+use lib.ListN.{length, take, drop, getD, set, length-drop, List·getD-append}
+use lib.Seq.{slice, length-slice, length-take-le, getD-take, getD-drop, paste, paste-suc}
 use Rattle.rules.specs.State.{over}
 use Rattle.rules.proofs.Lists.{part-slice}
 

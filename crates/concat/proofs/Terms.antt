@@ -8,7 +8,7 @@ use borrow.Rule.Slice.PartMut.{putMid}
 use lib.ListN.{length, take, drop, getD, length-append, drop-of-length-le}
 use lib.Seq.{slice, drop-cons, length-slice}
 use Rattle.rules.specs.declared.Allocator.{Allocator}
-use Rattle.rules.specs.Small.{be, lenFor, smallBytes}
+use Rattle.rules.specs.Small.{lenFor, smallBytes}
 use Rattle.rules.specs.Said.{Said, says, refuses}
 use Rattle.rules.specs.State.{AtomSlots, Store, over}
 use Rattle.rules.specs.Reads.{Atom, range, value, atomOf}

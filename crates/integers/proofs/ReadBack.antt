@@ -2,8 +2,7 @@
 -- About the rules alone. Assumes nothing.
 use Prim.Native.Nat.{ℕ, _≤_, _<_}
 use mathlib.Core.Path.{_≡_, refl, sym, ap, _∙_}
-use mathlib.Core.Bool.{Bool, true, false, cond}
-use mathlib.Core.List.{List}
+use mathlib.Core.Bool.{cond}
 use mathlib.Core.Option.{Option, none, some}
 use native.Mathlib.Omega.{arith}
 use native.Mathlib.Decide.{decLt}
@@ -14,15 +13,14 @@ use borrow.Author.Tests.{lt-ltb, le-ltb}
 use Rattle.rules.specs.Node.{view}
 use Rattle.rules.specs.Small.{fits}
 use Rattle.rules.specs.Integer.{intBytes, twos}
-use Rattle.rules.specs.Said.{Said, says, refuses}
+use Rattle.rules.specs.Said.{Said, says}
 use Rattle.rules.specs.Reads.{smallNumber}
-use Rattle.rules.specs.Tree.{leaf}
 use Rattle.rules.proofs.Smalls.{fits-value, fits-bytes}
 use Rattle.integer.proofs.Shortest.{shortest-bytes}
 use Rattle.runs.proofs.Shows.{shownNumber, number-shows, int-bytes, int-fits}
 use Rattle.rules.specs.Whole.{St, Whole, newU64, newI64}
 use Rattle.runs.specs.Wf.{WF}
-use Rattle.runs.specs.Makes.{Outcome, refused, accepted, Under, Made, MakesAtom}
+use Rattle.runs.specs.Makes.{Outcome, refused, accepted, MakesAtom}
 use Rattle.runs.proofs.Tests.{well-formed, →valid}
 use Rattle.runs.proofs.Making.{u64-makes, i64-makes}
 

@@ -1,11 +1,10 @@
 -- How the reader's definitions unfold, case by case. Assumes nothing.
 use Prim.Native.Nat.{ℕ, zero, suc, _+_, _-_}
 use mathlib.Core.Path.{_≡_, refl, sym, ap, _∙_}
-use mathlib.Core.Bool.{Bool, true, false}
+use mathlib.Core.Bool.{true, false}
 use mathlib.Core.List.{List}
 use native.Mathlib.Omega.{arith}
 use borrow.Author.Tests.{eq-eqb, ne-eqb}
-use lib.Dec.{eqb}
 use lib.ListN.{length}
 use Rattle.rules.specs.declared.Allocator.{Allocator}
 use Rattle.rules.specs.declared.Answer.{Answer}
@@ -14,7 +13,7 @@ use Rattle.rules.specs.declared.Code.{Code}
 use Rattle.rules.specs.Node.{nil}
 use Rattle.rules.specs.Said.{says, refuses, Out}
 use Rattle.rules.specs.State.{Lists, Store, PairStore, together, listsSound}
-use Rattle.rules.specs.Serial.{Token, broken, opening, string, token}
+use Rattle.rules.specs.Serial.{Token, token}
 use Rattle.rules.specs.Load.{Reading, reading, placed, madeAtom, madePair, after, pairItem, readPair, itemAs, item, atEnd, orBack, levelsOf, load}
 use Rattle.rules.specs.Paper.{codeNumber, answerPaper}
 use Rattle.words.specs.Words.{recordOf, WordsOut, inWords}

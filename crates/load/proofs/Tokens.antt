@@ -1,11 +1,9 @@
 -- Where a token lies in the file, and what its first bytes say, as the code tests them. Assumes nothing.
-use Prim.Native.Nat.{ℕ, _+_, _-_, _*_, _^_, _≤_, _<_}
+use Prim.Native.Nat.{ℕ, _+_, _-_, _≤_, _<_}
 use mathlib.Core.Path.{_≡_, refl, sym, ap, _∙_}
 use mathlib.Core.List.{List, _∷_}
 use native.Mathlib.Omega.{arith}
-use native.Mathlib.Nat.{pow-le-pow-right}
 use borrow.Author.Tests.{le-ltb, lt-leb, le-leb, ne-eqb}
-use lib.Dec.{lit<}
 use lib.ListN.{length, getD, take, drop}
 use lib.Seq.{slice}
 use Rattle.rules.proofs.Lists.{part-slice}

@@ -7,7 +7,7 @@ use mathlib.Core.List.{List}
 use lib.ListN.{length}
 use lib.Seq.{slice}
 use Rattle.rules.specs.Node.{nil}
-use Rattle.rules.specs.Said.{Said, says, refuses}
+use Rattle.rules.specs.Said.{says, refuses}
 use Rattle.rules.specs.State.{listsSound}
 use Rattle.rules.specs.Tree.{Tree, tree}
 use Rattle.rules.specs.Serial.{Form, height, opening, string, token, Parsed, parsed, fault, parse}

@@ -1,5 +1,5 @@
 -- Where an atom's bytes lie: within the byte store, and in which memory the part that atom hands back is; and how far two byte strings agree.
-use Prim.Native.Nat.{ℕ, _+_, _-_, _≤_, _<_}
+use Prim.Native.Nat.{ℕ, _+_, _-_, _≤_}
 use mathlib.Core.Path.{_≡_}
 use mathlib.Core.Bool.{false}
 use mathlib.Core.List.{List}

@@ -1,5 +1,5 @@
 -- What a chosen course tells: it holds what its act rests on. Assumes nothing.
-use Prim.Native.Nat.{ℕ, _+_, _-_, _*_, _≤_, _<_}
+use Prim.Native.Nat.{ℕ, _≤_}
 use mathlib.Core.Path.{_≡_, refl}
 use native.Mathlib.Omega.{arith}
 use mathlib.Core.Bool.{true, _&&_}
@@ -12,8 +12,6 @@ use Rattle.rules.specs.Said.{Said, says, refuses}
 use Rattle.rules.specs.State.{Lists, store}
 use Rattle.rules.specs.Restores.{Course, abort, keep, share, copy, course}
 use Rattle.rules.proofs.Tests.{both}
-use Rattle.rules.proofs.Limits.{Limits}
-use Rattle.runs.specs.Wf.{Sound}
 use Rattle.runs.specs.Back.{Copies}
 use Rattle.runs.proofs.Courses.{Open, CourseIs, unsound, unusable, little, invalid, bad-slot, early, later-pair, shared, astride, too-long, over-limit, copied, course-is}
 use Rattle.runs.proofs.Arise.{never-short-for-a-clone}

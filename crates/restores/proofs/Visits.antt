@@ -1,7 +1,7 @@
 -- What node() tells of an argument that passed its tests: a buffer, or something that is not cloned. Assumes nothing.
 use Prim.Native.Nat.{ℕ, _≤_}
 use mathlib.Core.Path.{_≡_, refl, sym, _∙_}
-use mathlib.Core.Bool.{Bool, true, false}
+use mathlib.Core.Bool.{true}
 use mathlib.Core.List.{[], _∷_}
 use mathlib.Core.Logic.{inl, inr}
 use native.Mathlib.Omega.{arith}
@@ -13,7 +13,7 @@ use Rattle.rules.specs.declared.NodeVisitor.{NodeVisitor}
 use Rattle.rules.specs.declared.NodeVisitor.the-variants.{Buffer, U32, Pair, Refused}
 use Rattle.rules.specs.Said.{Said, says, refuses, need}
 use Rattle.rules.specs.State.{AtomSlots, PairSlots, slotsSound, pairSlotSound, firstAt, restAt}
-use Rattle.rules.specs.Reads.{Arg, pairArg, bytesArg, smallArg, arg, Visited, buffer, number, children, childrenOf, visited, node}
+use Rattle.rules.specs.Reads.{Arg, pairArg, bytesArg, smallArg, arg, buffer, children, childrenOf, visited, node}
 use Rattle.rules.specs.Restores.{abort, newCourse}
 use Rattle.rules.specs.Paper.{visitorPaper}
 use Rattle.rules.proofs.Needs.{need-ind}

@@ -1,11 +1,10 @@
 -- The cases that document 01 marks P ("Both sides of each line"), as one table proved at once by computing. Assumes nothing.
 use Prim.Native.Nat.{ℕ, _+_}
 use mathlib.Core.Path.{_≡_, refl}
-use mathlib.Core.Bool.{Bool, true, false, cond, _&&_}
 use mathlib.Core.List.{List, [], _∷_, _++_}
 use mathlib.Core.Option.{Option, none, some}
-use lib.IntN.{ℤ, pos, negsuc}
-use lib.ListN.{length, replicate}
+use lib.IntN.{negsuc}
+use lib.ListN.{replicate}
 use lib.Seq.{slice}
 use Rattle.rules.specs.Node.{view, viewOf, nil, smallNode}
 use Rattle.rules.specs.Small.{big, be, unfit, fits, lenFor}

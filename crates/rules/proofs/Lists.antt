@@ -1,10 +1,10 @@
 -- Facts on lists that the byte store asks for. Assumes nothing.
-use Prim.Native.Nat.{ℕ, zero, suc, _+_, _-_, _≤_}
-use mathlib.Core.Path.{_≡_, refl, sym, _∙_}
+use Prim.Native.Nat.{ℕ, zero, suc, _-_, _≤_}
+use mathlib.Core.Path.{_≡_, refl}
 use mathlib.Core.List.{List, [], _∷_}
 use native.Mathlib.Omega.{arith}
-use lib.ListN.{length, take, drop}
-use lib.Seq.{slice, take-nil, drop-nil}
+use lib.ListN.{take, drop}
+use lib.Seq.{slice, take-nil}
 
 -- a part of a slice, as the code takes it, is the range of the list
 pub part-slice : (s e : ℕ) (l : List ℕ) → s ≤ e → take (e - s) (drop s l) ≡ slice s e l

@@ -1,16 +1,15 @@
 -- `tree` unfolds: an atom shows its bytes, a pair its two children. So the definition reads all of a tree. Assumes nothing.
 use Prim.Native.Nat.{ℕ, zero, suc, _≤_, _<_}
 use mathlib.Core.Path.{_≡_, refl, ap₂}
-use mathlib.Core.Bool.{Bool, true, false}
+use mathlib.Core.Bool.{true}
 use native.Mathlib.Omega.{arith}
 use native.Mathlib.Nat.{le-refl, le-trans}
 use borrow.Author.Tests.{lt-ltb, ltb-true}
-use lib.Dec.{ltb}
 use lib.Seq.{slice}
 use Rattle.rules.specs.Node.{Node, pairAt, bytesAt, small, bad, view, validAs}
 use Rattle.rules.specs.Small.{smallBytes}
 use Rattle.rules.specs.State.{Lists, startAt, endAt, firstAt, restAt, pairSlotSound}
-use Rattle.rules.specs.Tree.{Tree, leaf, fork, level, treeTo, depth, tree}
+use Rattle.rules.specs.Tree.{leaf, fork, level, treeTo, depth, tree}
 use Rattle.rules.proofs.Tests.{both}
 
 pub tree-bytes : (l : Lists) (n i : ℕ) → view n ≡ bytesAt i → tree l n ≡ leaf (slice (startAt (l .atoms) i) (endAt (l .atoms) i) (l .bytes))

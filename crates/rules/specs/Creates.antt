@@ -1,6 +1,6 @@
 -- The calls that count: atoms, integers, pairs, ghosts, substr, concat (document 01, "Rules call by call").
-use Prim.Native.Nat.{ℕ, zero, suc, _+_, _-_}
-use mathlib.Core.Bool.{Bool, true, false, _&&_}
+use Prim.Native.Nat.{ℕ, _+_, _-_}
+use mathlib.Core.Bool.{Bool, _&&_}
 use mathlib.Core.List.{List, [], _∷_, _++_}
 use mathlib.Core.Option.{Option, none, some}
 use lib.Dec.{leb, ltb, eqb}
@@ -11,8 +11,8 @@ use Rattle.rules.specs.declared.Allocator.{Allocator}
 use Rattle.rules.specs.Node.{pairNode, bytesNode, smallNode, nil, validNode}
 use Rattle.rules.specs.Small.{fits, lenFor, smallBytes}
 use Rattle.rules.specs.Integer.{intBytes}
-use Rattle.rules.specs.Said.{Said, says, refuses, need, Done, done, NoLists, noLists, Out, out, refused, settle}
-use Rattle.rules.specs.State.{AtomSlots, Store, store, PairStore, pairStore, startAt, endAt, atoms, pairs, heap, limitsSound, pairsSoundAt, storeSound, counts, usedAtom, usedPair, ghostAtom, withGhosts, over, putSlot, putPair}
+use Rattle.rules.specs.Said.{Said, says, refuses, need, Done, done, NoLists, noLists, Out, out, settle}
+use Rattle.rules.specs.State.{AtomSlots, Store, store, PairStore, pairStore, atoms, pairs, heap, limitsSound, pairsSoundAt, storeSound, usedAtom, usedPair, ghostAtom, withGhosts, over, putSlot, putPair}
 use Rattle.rules.specs.Reads.{Atom, range, value, atomOf, atomLength, atomBytes}
 
 -- ---- the limits: 2 if heap + length > limit, 3 if atoms = 62,500,000

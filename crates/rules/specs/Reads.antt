@@ -1,18 +1,17 @@
 -- The calls that only read (document 01, "Rules call by call"): each gives its answer on all input.
-use Prim.Native.Nat.{ℕ, _+_, _-_}
+use Prim.Native.Nat.{ℕ, _-_}
 use mathlib.Core.Bool.{Bool, true, false, cond, _&&_}
 use mathlib.Core.List.{List, [], _∷_}
 use mathlib.Core.Option.{Option, none, some}
-use lib.Dec.{leb, ltb, eqb}
-use lib.ListN.{length, drop}
+use lib.Dec.{ltb, eqb}
+use lib.ListN.{drop}
 use lib.Seq.{slice}
 use Rattle.rules.specs.declared.Counts.{Counts}
 use Rattle.rules.specs.declared.Allocator.{Allocator}
-use Rattle.rules.specs.declared.Checkpoint.{Checkpoint}
 use Rattle.rules.specs.Node.{Node, pairAt, bytesAt, small, bad, view, indexOf, nil}
 use Rattle.rules.specs.Small.{fits, lenFor, be, smallBytes}
 use Rattle.rules.specs.Said.{Said, says, refuses, need, saysOf}
-use Rattle.rules.specs.State.{AtomSlots, PairSlots, startAt, endAt, firstAt, restAt, atoms, pairs, heap, limitsSound, atomsSound, pairsSound, slotsSound, bytesSound, atomSlotSound, pairSlotSound}
+use Rattle.rules.specs.State.{AtomSlots, PairSlots, startAt, endAt, firstAt, restAt, atoms, pairs, atomsSound, pairsSound, slotsSound, bytesSound, atomSlotSound, pairSlotSound}
 
 -- ---- NodePtr: 5 for a kind above 2
 

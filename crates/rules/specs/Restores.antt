@@ -1,15 +1,13 @@
 -- Restores: going back to a checkpoint (document 01, "Checkpoints").
-use Prim.Native.Nat.{ℕ, zero, suc, _+_, _-_, _*_}
-use mathlib.Core.Bool.{Bool, true, false, cond, _&&_}
-use mathlib.Core.List.{List}
+use Prim.Native.Nat.{ℕ, _+_, _-_, _*_}
+use mathlib.Core.Bool.{Bool, cond, _&&_}
 use lib.Dec.{leb, ltb}
-use lib.ListN.{length}
 use lib.Seq.{slice}
 use Rattle.rules.specs.declared.Counts.{Counts}
 use Rattle.rules.specs.declared.Allocator.{Allocator}
 use Rattle.rules.specs.declared.Checkpoint.{Checkpoint}
 use Rattle.rules.specs.Node.{bytesNode, nil}
-use Rattle.rules.specs.Said.{Said, says, refuses, need, Done, done, NoLists, noLists, Out, out, refused, settle}
+use Rattle.rules.specs.Said.{Said, says, refuses, need, Done, done, NoLists, noLists, Out, out, settle}
 use Rattle.rules.specs.State.{AtomSlots, PairSlots, Store, store, PairStore, together, Slots, Lists, heap, restoreSound, listsSound, atomSlotsSound, pairSlotsSound, usedAtom, cut, cutPlain, lessGhosts, putSlot}
 use Rattle.rules.specs.Reads.{Arg, pairArg, bytesArg, smallArg, arg, Status, before, afterNewBytes, afterOldBytes, statusOf}
 use Rattle.rules.specs.Creates.{newAtom}

@@ -1,7 +1,7 @@
 -- Trees as bytes: the serialised form of the public CLVM documentation, as document 02 gives it (W1).
 use Prim.Native.Nat.{ℕ, zero, suc, max, _+_, _-_, _*_, _/_, _^_, _≤_, _<_}
 use mathlib.Core.Path.{_≡_}
-use mathlib.Core.Bool.{Bool, true, false, cond, _&&_}
+use mathlib.Core.Bool.{cond, _&&_}
 use mathlib.Core.List.{List, [], _∷_, _++_}
 use lib.Dec.{leb, ltb, eqb}
 use lib.ListN.{length, getD}

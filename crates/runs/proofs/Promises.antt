@@ -3,10 +3,9 @@
 use Prim.Native.Nat.{ℕ, _<_}
 use mathlib.Core.Path.{_≡_, sym, ap, subst}
 use mathlib.Core.List.{List, []}
-use lib.IntN.{ℤ, pos}
+use lib.IntN.{ℤ}
 use lib.Signed.{mag}
 use Rattle.rules.specs.declared.Allocator.{Allocator}
-use Rattle.rules.specs.declared.Checkpoint.{Checkpoint}
 use Rattle.rules.specs.declared.Made.{Made}
 use Rattle.rules.specs.declared.Changed.{Changed}
 use Rattle.rules.specs.declared.Restored.{Restored}
@@ -21,7 +20,7 @@ use Rattle.rules.specs.Restores.{Restoring, noReplace}
 use Rattle.rules.specs.Load as L
 use Rattle.rules.specs.Load.{Reading}
 use Rattle.rules.specs.Paper.{verdictPaper, maybePaper, made, changed, restored, loaded}
-use Rattle.rules.specs.Whole.{St, storeOf, pairsOf, slotsOf, alone, onPairs, onStore, left, Making, atom, small-number, u64, i64, pair, substr, concat, ghost-pairs, fewer-ghost-pairs, ghost-atoms, Way, plainly, transparently, withNode}
+use Rattle.rules.specs.Whole.{St, storeOf, pairsOf, slotsOf, alone, onPairs, onStore, left, atom, small-number, u64, i64, pair, substr, concat, ghost-pairs, fewer-ghost-pairs, ghost-atoms, plainly, transparently, withNode}
 use Rattle.runs.specs.Runs as Run
 use Rattle.runs.specs.Runs.{Event, LiveAt, noted, Past}
 

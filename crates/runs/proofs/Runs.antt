@@ -13,7 +13,7 @@ use Rattle.rules.specs.Said.{Said, says, refuses, need, codeOf, Done}
 use Rattle.rules.specs.Record.{checkpoint, checkpointOf, transparentCheckpoint}
 use Rattle.rules.specs.Restores.{Restoring, noReplace, replace, aborted}
 use Rattle.rules.proofs.Tests.{choice}
-use Rattle.rules.specs.Whole.{St, Whole, Making, make, Way, plainly, transparently, withNode, nodeless, restore}
+use Rattle.rules.specs.Whole.{St, Whole, Way, plainly, transparently, withNode, nodeless, restore}
 use Rattle.runs.specs.Wf.{WF, On}
 use Rattle.runs.specs.Runs.{Event, took, went, count, LiveAt, just-taken, past-take, past-restore, noted, Past, fresh, made, read, taken, back, loaded, longer, MaybeIs, little, invalid, before, later-pair, old-bytes, too-long, over-limit, new-small, new-bytes, Kept, Demand3}
 use Rattle.runs.proofs.Tests.{→limits, valid-mono}

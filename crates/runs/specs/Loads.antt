@@ -6,7 +6,7 @@ use lib.ListN.{length}
 use lib.Seq.{slice}
 use Rattle.rules.specs.Node.{nil}
 use Rattle.rules.specs.Small.{fits}
-use Rattle.rules.specs.Said.{Said, says, refuses, done}
+use Rattle.rules.specs.Said.{says, refuses, done}
 use Rattle.rules.specs.State.{pairs}
 use Rattle.rules.specs.Tree.{Tree, leaf, fork}
 use Rattle.rules.specs.Whole.{St, Whole, after, newAtom, newPair, plain}

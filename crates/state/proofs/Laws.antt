@@ -1,11 +1,11 @@
 -- A count of a sound record is far below the cap of the sum that the code takes. Assumes nothing.
-use Prim.Native.Nat.{ℕ, _+_, _≤_, min}
+use Prim.Native.Nat.{ℕ, _≤_, min}
 use mathlib.Core.Path.{_≡_, refl, ap}
 use mathlib.Core.Bool.{Bool, true, false}
 use native.Mathlib.Omega.{arith}
 use Rattle.rules.specs.declared.Allocator.{Allocator}
 use Rattle.rules.specs.Node.{nil}
-use Rattle.rules.specs.Said.{Said, says, need}
+use Rattle.rules.specs.Said.{says, need}
 use Rattle.rules.specs.State.{limitsSound}
 use Rattle.rules.proofs.Limits.{Limits, limits}
 

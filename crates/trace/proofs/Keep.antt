@@ -2,7 +2,7 @@
 use Prim.Native.Nat.{ℕ, zero, suc, _+_, _-_, _*_, _%_, _≤_, _<_}
 use mathlib.Core.Path.{_≡_, refl, ap}
 use mathlib.Core.Logic.{_⊎_, inl, inr}
-use mathlib.Core.Bool.{Bool, true, false, cond, _&&_}
+use mathlib.Core.Bool.{cond, _&&_}
 use mathlib.Core.List.{List, [], _∷_}
 use native.Mathlib.Omega.{arith}
 use lib.Dec.{ltb, leb, eqb}
@@ -56,7 +56,7 @@ part-octets n k l o = take-octets n (drop k l) (drop-octets k l o)
 -- ---- the machine after a record
 
 pub limits-of : (a : Allocator) (l : Lists) → Sound a l → Limits a
-limits-of a l s = record { bytes = s .bytes-most; limit = s .limit-most; atoms = s .atoms-most; pairs = s .pairs-most; heap = s .heap-most }
+limits-of a l s = omega arith
 
 pub record Kept (m : Machine) (x : Acted) : Type 0 where
   pub formed : WF (stateOf (x .did .machine) (x .left))

@@ -2,7 +2,7 @@
 use Prim.Native.Nat.{ℕ, zero, suc, _+_, _-_, _*_, _≤_, _<_}
 use mathlib.Core.Path.{_≡_, refl, sym, ap, subst, _∙_}
 use mathlib.Core.Bool.{Bool, true, false, cond, false≢true}
-use mathlib.Core.Logic.{_⊎_, inl, inr, ⊎-elim}
+use mathlib.Core.Logic.{_⊎_, ⊎-elim}
 use mathlib.Core.List.{List, [], _∷_, _++_, append-assoc, append-nil}
 use native.Mathlib.Omega.{arith}
 use lib.Dec.{eqb}
@@ -18,8 +18,8 @@ use Rattle.trace.specs.declared.rows.Ran.{Ran}
 use Rattle.trace.specs.Step.{Stepped, stepOn}
 use Rattle.trace.specs.Sane.{Ready}
 use Rattle.trace.specs.Trace.{endOf, rowThen, traceTo, traceOf}
-use Rattle.trace.specs.Run.{nextOf, Advanced, ranOf, Ended, leftOf, Full, RanFrom}
-use Rattle.trace.proofs.Keep.{StepFacts, step-facts}
+use Rattle.trace.specs.Run.{nextOf, Advanced, ranOf, Ended, RanFrom}
+use Rattle.trace.proofs.Keep.{step-facts}
 
 -- ---- one record at a time
 

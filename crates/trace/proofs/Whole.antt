@@ -1,47 +1,33 @@
 -- What is written piece by piece is the whole text, and a stretch of records always gets on. Assumes nothing.
-use Prim.Native.Nat.{ℕ, _+_, _*_, _/_, _≤_, _<_}
+use Prim.Native.Nat.{ℕ, _+_, _*_, _≤_, _<_}
 use mathlib.Core.Path.{_≡_, refl, sym, ap, subst, _∙_}
-use mathlib.Core.Bool.{Bool, true, false, cond, false≢true}
-use mathlib.Core.List.{List, [], _∷_, _++_, append-nil}
+use mathlib.Core.Bool.{true, false}
+use mathlib.Core.List.{List, [], _++_, append-nil}
 use native.Mathlib.Omega.{arith}
-use lib.Dec.{leb}
 use lib.ListN.{length, take, drop, length-append}
 use lib.Seq.{length-take-le}
 use borrow.Author.Tests.{le-leb, lt-leb}
 use Rattle.rules.specs.Small.{Octets}
 use Rattle.rules.specs.State.{Lists}
-use Rattle.rules.specs.Record.{fresh}
-use Rattle.runs.specs.Wf.{WF}
 use Rattle.text.specs.Text.{Put, headText, longText}
 use Rattle.trace.specs.declared.machine.Machine.{Machine}
 use Rattle.trace.specs.declared.rows.Ran.{Ran}
 use Rattle.trace.specs.Machine.{freshMachine}
 use Rattle.trace.specs.Sane.{Ready}
 use Rattle.trace.specs.Trace.{traceOf, textOf}
-use Rattle.trace.specs.Run.{leftOf, Full, RanFrom, joined, Pieces, last, more}
+use Rattle.trace.specs.Run.{RanFrom, joined, Pieces, last, more}
 
 -- ---- the first machine
 
 pub fresh-ready : (l : Lists) → Octets (l .bytes) → Ready freshMachine l
 fresh-ready l o = record {
   formed = record {
-    sound = record {
-      bytes-fit = omega arith;
-      starts-fit = omega arith;
-      ends-fit = omega arith;
-      firsts-fit = omega arith;
-      rests-fit = omega arith;
-      bytes-most = omega arith;
-      limit-most = omega arith;
-      atoms-most = omega arith;
-      pairs-most = omega arith;
-      heap-most = omega arith;
-    };
+    sound = omega arith;
     shape = record { slot = λ i h. absurd (omega arith); pair = λ i h. absurd (omega arith) };
     octets = o;
   };
   sane = record {
-    limits = record { bytes = omega arith; limit = omega arith; atoms = omega arith; pairs = omega arith; heap = omega arith };
+    limits = omega arith;
     checkpoints-taken = omega arith;
     rows-shown = omega arith;
     released-most = omega arith;

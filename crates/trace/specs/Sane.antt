@@ -1,5 +1,5 @@
 -- What every machine of a run has, so that no sum of the program wraps.
-use Prim.Native.Nat.{ℕ, _*_, _≤_}
+use Prim.Native.Nat.{_*_, _≤_}
 use Rattle.rules.specs.State.{Lists}
 use Rattle.rules.proofs.Limits.{Limits}
 use Rattle.runs.specs.Wf.{WF}

@@ -1,6 +1,6 @@
 -- One record: what it does, its row, and how many bytes it took.
 use Prim.Native.Nat.{ℕ, _+_}
-use mathlib.Core.Bool.{Bool, true, false, cond}
+use mathlib.Core.Bool.{cond}
 use mathlib.Core.List.{List}
 use lib.Dec.{eqb}
 use Rattle.rules.specs.State.{Lists, atoms, pairs, heap}

@@ -4,11 +4,10 @@ use crate::machine;
 use crate::machine::Did;
 use crate::machine::Machine;
 ghost use mathlib.Core.Path.{_≡_};
-ghost use mathlib.Core.List.{List};
-ghost use Prim.Native.Nat.{ℕ, _<_};
+ghost use Prim.Native.Nat.{_<_};
 ghost use lib.ListN.{length, drop};
-ghost use Rattle.rules.specs.State.{AtomSlots, PairSlots, Lists, lists};
-ghost use Rattle.rules.specs.Lent.{atomSlotsIn, pairSlotsIn};
+ghost use Rattle.rules.specs.State.{Store, PairStore, Lists, together};
+ghost use Rattle.rules.specs.Lent.{storeIn, pairStoreIn};
 ghost use Rattle.trace.specs.Bytes.{u32At, u64At, u32s};
 ghost use Rattle.trace.specs.Request as Q;
 ghost use Rattle.trace.specs.Request.{sized, listed};
@@ -17,8 +16,8 @@ ghost use Rattle.trace.specs.Sane.{Sane};
 
 // Kind 1: the bytes of a new atom.
 pub fn atom(m: Machine, bytes: &mut [u8], starts: &mut [u32], ends: &mut [u32], p: &[u8]) -> Did
-    ensures { λ r. ⌜ ((q : PairSlots) → acted r (lists (now (bytes .exit)) (atomSlotsIn (starts .exit) (ends .exit)) q)
-        ≡ actOf m (lists (now (bytes .entry)) (atomSlotsIn (starts .entry) (ends .entry)) q) (Q.atom (now (p .entry)))) ⌝ }
+    ensures { λ r. ⌜ ((q : PairStore) → acted r (together (storeIn (bytes .exit) (starts .exit) (ends .exit)) q)
+        ≡ actOf m (together (storeIn (bytes .entry) (starts .entry) (ends .entry)) q) (Q.atom (now (p .entry)))) ⌝ }
 {
     let a = m.state;
     let made = creates::atom::new_atom(a, bytes, starts, ends, p);
@@ -27,8 +26,8 @@ pub fn atom(m: Machine, bytes: &mut [u8], starts: &mut [u32], ends: &mut [u32], 
 
 // Kind 2: two u32, first and rest.
 pub fn pair(m: Machine, firsts: &mut [u32], rests: &mut [u32], p: &[u8]) -> Did
-    ensures { λ r. ⌜ ((b : List ℕ) (t : AtomSlots) → acted r (lists b t (pairSlotsIn (firsts .exit) (rests .exit)))
-        ≡ actOf m (lists b t (pairSlotsIn (firsts .entry) (rests .entry)))
+    ensures { λ r. ⌜ ((s : Store) → acted r (together s (pairStoreIn (firsts .exit) (rests .exit)))
+        ≡ actOf m (together s (pairStoreIn (firsts .entry) (rests .entry)))
         (sized 8 (now (p .entry)) (Q.pair (u32At (now (p .entry)) 0) (u32At (now (p .entry)) 4)))) ⌝ }
 {
     if p.len() != 8 {
@@ -43,8 +42,8 @@ pub fn pair(m: Machine, firsts: &mut [u32], rests: &mut [u32], p: &[u8]) -> Did
 
 // Kind 3: three u32, node, start and end.
 pub fn substr(m: Machine, bytes: &mut [u8], starts: &mut [u32], ends: &mut [u32], p: &[u8]) -> Did
-    ensures { λ r. ⌜ ((q : PairSlots) → acted r (lists (now (bytes .exit)) (atomSlotsIn (starts .exit) (ends .exit)) q)
-        ≡ actOf m (lists (now (bytes .entry)) (atomSlotsIn (starts .entry) (ends .entry)) q)
+    ensures { λ r. ⌜ ((q : PairStore) → acted r (together (storeIn (bytes .exit) (starts .exit) (ends .exit)) q)
+        ≡ actOf m (together (storeIn (bytes .entry) (starts .entry) (ends .entry)) q)
         (sized 12 (now (p .entry)) (Q.substr (u32At (now (p .entry)) 0) (u32At (now (p .entry)) 4) (u32At (now (p .entry)) 8)))) ⌝ }
 {
     if p.len() != 12 {
@@ -68,8 +67,8 @@ fn node_buffer() -> [u32; 16384]
 // Kind 4: a u64, the size, and then a u32 for each node.
 pub fn concat(m: Machine, bytes: &mut [u8], starts: &mut [u32], ends: &mut [u32], p: &[u8]) -> Did
     requires { ⌜ length (now p) < 65536 ⌝ }
-    ensures { λ r. ⌜ ((q : PairSlots) → acted r (lists (now (bytes .exit)) (atomSlotsIn (starts .exit) (ends .exit)) q)
-        ≡ actOf m (lists (now (bytes .entry)) (atomSlotsIn (starts .entry) (ends .entry)) q)
+    ensures { λ r. ⌜ ((q : PairStore) → acted r (together (storeIn (bytes .exit) (starts .exit) (ends .exit)) q)
+        ≡ actOf m (together (storeIn (bytes .entry) (starts .entry) (ends .entry)) q)
         (listed (now (p .entry)) (Q.concat (u64At (now (p .entry)) 0) (u32s (drop 8 (now (p .entry))))))) ⌝ }
 {
     if p.len() < 8 {

@@ -1,8 +1,9 @@
 -- `concat::concat_tests` meets its contract. Assumes nothing.
 use mathlib.Core.Path.{sym, _∙_}
-use Prim.Native.Nat.{_+_}
+use Prim.Native.Nat.{_+_, _≤_, _<_}
 use native.Mathlib.Omega.{arith}
 use borrow.Author.Tests.{lt-leb, le-leb, lt-ltb, le-ltb}
+use Rattle.rules.proofs.Limits.{Limits}
 use Rattle.rules.proofs.Sound.{store-lent}
 use Rattle.rules.specs.Creates.{concatTests}
 use Rattle.rules.specs.Said.{need}
@@ -29,21 +30,40 @@ total-requires-2 c κs = search needs
 total-requires-3 : tie.Need-total-requires-3
 total-requires-3 c κs = search needs
 
+-- what the tests passed so far say of the two sums
+few : (c : tie.Else2) →
+    let start : tie.Start = search in
+    let a = start .args .a in a .used .atoms + a .ghosts .atoms < 62500000
+few c =
+    let total : tie.After-total = search in
+    omega (arith, total .total .ensures, c .if2 .left)
+
+limited : (c : tie.Else2) →
+    let start : tie.Start = search in
+    Limits (start .args .a)
+limited c =
+    let (bytes-sound, then1) : tie.After-bytes-sound × tie.Then1 = search in
+    store-lent _ _ _ _ (sym (bytes-sound .bytes-sound .ensures) ∙ then1 .if1 .taken) .atoms .limits
+
 returns-2 : tie.Need-returns-2
 unfolding concatTests need
 returns-2 c =
-    let (start, bytes-sound, then1) : tie.Start × tie.After-bytes-sound × tie.Then1 = search in
-    let a = start .args in
-    let l = store-lent _ _ _ _ (sym (bytes-sound .bytes-sound .ensures) ∙ then1 .if1 .taken) in
-    simp (← (bytes-sound .bytes-sound .ensures), then1 .if1 .taken, lt-ltb (a .a .used .atoms + a .a .ghosts .atoms) 62500000 (omega arith), lt-leb (a .a .used .bytes + a .a .ghosts .bytes + a .size) (a .a .limit) (omega arith))
+    let (start, bytes-sound, then1, else2, total2, total3) :
+    tie.Start × tie.After-bytes-sound × tie.Then1 × tie.Else2 × tie.After-total2 × tie.After-total3 = search in
+    let a = start .args .a in
+    let h : a .limit < a .used .bytes + a .ghosts .bytes + start .args .size =
+    omega (arith, limited else2, total2 .total2 .ensures, total3 .total3 .ensures, c .if3 .taken) in
+    simp (← (bytes-sound .bytes-sound .ensures), then1 .if1 .taken, lt-ltb _ _ (few else2), lt-leb _ _ h)
 
 returns-3 : tie.Need-returns-3
 unfolding concatTests need
 returns-3 c =
-    let (start, bytes-sound, then1) : tie.Start × tie.After-bytes-sound × tie.Then1 = search in
-    let a = start .args in
-    let l = store-lent _ _ _ _ (sym (bytes-sound .bytes-sound .ensures) ∙ then1 .if1 .taken) in
-    simp (← (bytes-sound .bytes-sound .ensures), then1 .if1 .taken, lt-ltb (a .a .used .atoms + a .a .ghosts .atoms) 62500000 (omega arith), le-leb (a .a .used .bytes + a .a .ghosts .bytes + a .size) (a .a .limit) (omega arith))
+    let (start, bytes-sound, then1, else2, total2, total3) :
+    tie.Start × tie.After-bytes-sound × tie.Then1 × tie.Else2 × tie.After-total2 × tie.After-total3 = search in
+    let a = start .args .a in
+    let h : a .used .bytes + a .ghosts .bytes + start .args .size ≤ a .limit =
+    omega (arith, limited else2, total2 .total2 .ensures, total3 .total3 .ensures, c .if3 .left) in
+    simp (← (bytes-sound .bytes-sound .ensures), then1 .if1 .taken, lt-ltb _ _ (few else2), le-leb _ _ h)
 
 returns-4 : tie.Need-returns-4
 unfolding concatTests need

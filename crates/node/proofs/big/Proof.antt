@@ -1,6 +1,5 @@
 -- `node::big` meets its contract: a first digit 0 adds nothing, and four bytes write a number of 32 bits.
-use mathlib.Core.Path.{_≡_, _∙_}
-use Prim.Native.Nat.{_≤_, _<_}
+use mathlib.Core.Path.{_∙_}
 use native.Mathlib.Omega.{arith}
 use borrow.Author.Needs.{needs}
 use Rattle.node.proofs.Laws.{big-zero, big-four}

@@ -4,7 +4,6 @@ use Rattle.rules.proofs.Sound.{slots-lent}
 use Rattle.rules.specs.Paper.{argPaper}
 use Rattle.rules.specs.Reads.{node, childrenOf}
 use Rattle.rules.specs.Said.{need}
-use lib.ListN.{length}
 use native.Mathlib.Omega.{arith}
 use mathlib.Core.Path.{sym, ap, _∙_}
 use borrow.Author.Needs.{needs}

@@ -2,9 +2,8 @@
 use Rattle.rules.proofs.Sound.{slots-lent}
 use Rattle.rules.specs.Restores.{restorePlain}
 use Rattle.rules.specs.Said.{need}
-use lib.ListN.{length}
 use native.Mathlib.Omega.{arith}
-use mathlib.Core.Path.{sym, ap, _∙_}
+use mathlib.Core.Path.{sym, _∙_}
 use borrow.Author.Needs.{needs}
 use Rattle.restores.proofs.restore_checkpoint.Statement.{statement}
 use Rattle.restores.proofs.restore_checkpoint.Tie as tie

@@ -1,10 +1,7 @@
 -- `state::heap_size` meets its contract. Assumes nothing.
 use Rattle.state.proofs.Laws.{count-uncapped}
-use Rattle.rules.proofs.Limits.{Limits}
 use Rattle.rules.specs.State.{heap}
 use native.Mathlib.Omega.{arith}
-use mathlib.Core.Path.{_∙_}
-use Prim.Native.Nat.{_≤_}
 use borrow.Author.Needs.{needs}
 use Rattle.state.proofs.heap_size.Statement.{statement}
 use Rattle.state.proofs.heap_size.Tie as tie

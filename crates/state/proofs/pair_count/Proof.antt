@@ -1,10 +1,7 @@
 -- `state::pair_count` meets its contract. Assumes nothing.
 use Rattle.state.proofs.Laws.{count-uncapped}
-use Rattle.rules.proofs.Limits.{Limits}
 use Rattle.rules.specs.State.{pairs}
 use native.Mathlib.Omega.{arith}
-use mathlib.Core.Path.{_∙_}
-use Prim.Native.Nat.{_≤_}
 use borrow.Author.Needs.{needs}
 use Rattle.state.proofs.pair_count.Statement.{statement}
 use Rattle.state.proofs.pair_count.Tie as tie

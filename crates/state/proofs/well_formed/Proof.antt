@@ -1,5 +1,5 @@
 -- `state::well_formed` meets its contract: the record, then the atom slots, then the pair slots. Assumes nothing.
-use Rattle.rules.proofs.Sound.{ListsLent, lists-lent}
+use Rattle.rules.proofs.Sound.{lists-lent}
 use Rattle.rules.specs.State.{wellFormed}
 use native.Mathlib.Omega.{arith}
 use mathlib.Core.Path.{sym, _∙_}

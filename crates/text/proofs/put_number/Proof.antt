@@ -1,10 +1,8 @@
 -- `text::put_number` meets its contract: digits, then one byte. Assumes nothing.
 use native.Mathlib.Omega.{arith}
-use mathlib.Core.Path.{_≡_, _∙_, subst, ap}
-use mathlib.Core.List.{List}
-use Prim.Native.Nat.{_≤_, _<_, _+_}
-use lib.ListN.{length, take}
-use Rattle.text.specs.Text.{Put, dec}
+use mathlib.Core.Path.{_∙_}
+use Prim.Native.Nat.{_≤_, _<_}
+use lib.ListN.{length}
 use Rattle.text.proofs.Puts.{dec-is, put-byte, put-as, few-digits}
 use borrow.Author.Needs.{needs}
 use Rattle.text.proofs.put_number.Statement.{statement}

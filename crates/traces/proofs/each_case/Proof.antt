@@ -1,7 +1,6 @@
 -- `traces::each_case` meets its contract: the buffers keep their lengths. Assumes nothing.
 use borrow.Author.Needs.{needs}
 use lib.ListN.{length}
-use native.Mathlib.Omega.{arith}
 use mathlib.Core.Path.{_≡_}
 use Rattle.traces.proofs.each_case.Statement.{statement}
 use Rattle.traces.proofs.each_case.Tie as tie

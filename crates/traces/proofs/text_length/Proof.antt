@@ -6,7 +6,7 @@ use lib.ListN.{length, length-take}
 use borrow.Author.Needs.{needs}
 use native.Mathlib.Omega.{arith}
 use Prim.Native.Nat.{_≤_, _-_}
-use mathlib.Core.Path.{_≡_, refl, sym, ap, _∙_}
+use mathlib.Core.Path.{_≡_, refl, sym, _∙_}
 use Rattle.traces.proofs.text_length.Statement.{statement}
 use Rattle.traces.proofs.text_length.Tie as tie
 use Rattle.traces.proofs.text_length.Reads as reads

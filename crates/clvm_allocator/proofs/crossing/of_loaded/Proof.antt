@@ -1,5 +1,5 @@
 -- `clvm_allocator::crossing::of_loaded` meets its contract: the answer as numbers, and the place.
-use mathlib.Core.Path.{_≡_, ap}
+use mathlib.Core.Path.{ap}
 use Rattle.clvm_allocator.specs.declared.answers.CAnswer.{CAnswer}
 use Rattle.clvm_allocator.specs.declared.answers.CLoaded.{CLoaded}
 use borrow.Author.Needs.{needs}

@@ -5,7 +5,7 @@ use Rattle.rules.specs.State.{pairs}
 use Rattle.rules.specs.Said.{need}
 use borrow.Author.Tests.{lt-ltb, le-ltb}
 use native.Mathlib.Omega.{arith}
-use Prim.Native.Nat.{_+_, _≤_, _<_}
+use Prim.Native.Nat.{_≤_, _<_}
 use borrow.Author.Needs.{needs}
 use Rattle.creates.proofs.pair.pair_tests.Statement.{statement}
 use Rattle.creates.proofs.pair.pair_tests.Tie as tie

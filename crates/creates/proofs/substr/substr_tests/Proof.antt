@@ -5,7 +5,7 @@ use Rattle.rules.specs.Said.{need}
 use borrow.Author.Tests.{lt-ltb, le-ltb}
 use native.Mathlib.Omega.{arith}
 use mathlib.Core.Path.{sym, _∙_}
-use Prim.Native.Nat.{_+_, _≤_, _<_}
+use Prim.Native.Nat.{_≤_, _<_}
 use borrow.Author.Needs.{needs}
 use Rattle.creates.proofs.substr.substr_tests.Statement.{statement}
 use Rattle.creates.proofs.substr.substr_tests.Tie as tie

@@ -2,8 +2,7 @@
 use Prim.Native.Nat.{_≤_, _-_, _+_}
 use mathlib.Core.Path.{_≡_, refl, sym, ap, _∙_}
 use native.Mathlib.Omega.{arith}
-use lib.ListN.{length, take, drop, length-take, length-drop}
-use borrow.Author.Needs.{needs}
+use lib.ListN.{length, drop, length-take, length-drop}
 use Rattle.rules.specs.Reads.{sameBytes}
 use Rattle.reads.proofs.Laws.{same-block, odd-block}
 use Rattle.reads.proofs.eq.ahead.Statement.{statement}

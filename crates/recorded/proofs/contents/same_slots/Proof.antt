@@ -1,7 +1,5 @@
 -- `same_slots` is safe and ends. A loop that stays within both slices. Assumes nothing.
 use Prim.Native.Nat.{_-_}
-use mathlib.Core.Path.{_≡_}
-use lib.ListN.{length}
 use borrow.Author.Needs.{needs}
 use Rattle.recorded.proofs.contents.same_slots.Statement.{statement}
 use Rattle.recorded.proofs.contents.same_slots.Tie as tie

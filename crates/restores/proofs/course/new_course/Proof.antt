@@ -2,13 +2,12 @@
 use Rattle.restores.proofs.Visits.{node-visits, buffer-in, buffer-of, no-buffer}
 use Rattle.rules.proofs.Sound.{slots-lent}
 use Rattle.rules.specs.Paper.{visitorPaper}
-use Rattle.rules.specs.Restores.{newCourse}
-use Rattle.rules.specs.Reads.{Arg, arg, bytesArg, visited}
+use Rattle.rules.specs.Reads.{visited}
 use Rattle.rules.specs.State.{atomSlots, pairSlots}
-use Rattle.rules.specs.Said.{need, says}
+use Rattle.rules.specs.Said.{need}
 use borrow.Author.Tests.{lt-ltb, le-ltb, le-leb, lt-leb}
 use native.Mathlib.Omega.{arith}
-use mathlib.Core.Path.{_≡_, sym, ap, _∙_}
+use mathlib.Core.Path.{sym, ap, _∙_}
 use borrow.Author.Needs.{needs}
 use Rattle.restores.proofs.course.new_course.Statement.{statement}
 use Rattle.restores.proofs.course.new_course.Tie as tie

@@ -5,7 +5,7 @@ use Rattle.rules.specs.State.{all, atomSlots, atomSlotSound}
 use native.Mathlib.Omega.{arith}
 use mathlib.Core.Bool.{true}
 use mathlib.Core.Path.{_≡_, sym, _∙_}
-use Prim.Native.Nat.{_≤_, _<_, _-_}
+use Prim.Native.Nat.{_≤_, _-_}
 use Rattle.state.proofs.sound.atom_slots_sound.Statement.{statement}
 use Rattle.state.proofs.sound.atom_slots_sound.Tie as tie
 use Rattle.state.proofs.sound.atom_slots_sound.Reads as reads

@@ -29,7 +29,7 @@ same-length-3 c = search needs
 returns : tie.Need-returns
 returns c =
     let (start, new-atom) : tie.Start × tie.After-new-atom = search in
-    λ q. simp (c .make .ensures) (ap (λ o. shows (didMake (start .args .m)) (onStore (stateOf (start .args .m) (lists (start .args .bytes .now) (atomSlots (start .args .starts .now) (start .args .ends .now)) q)) o)) (new-atom .new-atom .ensures))
+    λ q. simp (c .make .ensures) (ap (λ o. shows (didMake (start .args .m)) (onStore (stateOf (start .args .m) (lists (start .args .bytes .now) (atomSlots (start .args .starts .now) (start .args .ends .now)) (q .pairs))) o)) (new-atom .new-atom .ensures))
 
 pub atom-spec : {M : Type 1} → statement M
 atom-spec =

@@ -95,7 +95,7 @@ returns-3 c =
     let (start, else1, else2, u64-at, put-u32s) = earlier new-concat in
     let s = start .args in
     let nodes = put-u32s .put-u32s .ensures .0 ∙ ap u32s (from-on (s .p .now) 8) in
-    λ q. simp (le-leb _ _ (else1 .if1 .left), eq-eqb _ _ (else2 .if2 .left), c .make .ensures, ← (u64-at .u64-at .ensures)) (ap (λ o. shows (didMake (s .m)) (onStore (stateOf (s .m) (lists (s .bytes .now) (atomSlots (s .starts .now) (s .ends .now)) q)) o)) (new-concat .new-concat .ensures ∙ ap (λ (x : List ℕ). newConcat (s .m .state) (u64-at .u64-at .result) x (store (s .bytes .now) (atomSlots (s .starts .now) (s .ends .now)))) nodes))
+    λ q. simp (le-leb _ _ (else1 .if1 .left), eq-eqb _ _ (else2 .if2 .left), c .make .ensures, ← (u64-at .u64-at .ensures)) (ap (λ o. shows (didMake (s .m)) (onStore (stateOf (s .m) (lists (s .bytes .now) (atomSlots (s .starts .now) (s .ends .now)) (q .pairs))) o)) (new-concat .new-concat .ensures ∙ ap (λ (x : List ℕ). newConcat (s .m .state) (u64-at .u64-at .result) x (store (s .bytes .now) (atomSlots (s .starts .now) (s .ends .now)))) nodes))
 
 pub concat-spec : {M : Type 1} → statement M
 concat-spec =

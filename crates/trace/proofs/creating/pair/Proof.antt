@@ -20,7 +20,7 @@ bad-requires c κs = search needs
 returns : tie.Need-returns
 returns c =
     let then1 : tie.Then1 = search in
-    λ b t. simp (ne-eqb _ _ (then1 .if1 .taken), c .bad .ensures)
+    λ s. simp (ne-eqb _ _ (then1 .if1 .taken), c .bad .ensures)
 
 u32-at-requires : tie.Need-u32-at-requires
 u32-at-requires c κs = search needs
@@ -43,7 +43,7 @@ same-length-2 c = search needs
 returns-2 : tie.Need-returns-2
 returns-2 c =
     let (start, else1, u32-at, u32-at2, new-pair) : tie.Start × tie.Else1 × tie.After-u32-at × tie.After-u32-at2 × tie.After-new-pair = search in
-    λ b t. simp (eq-eqb _ _ (else1 .if1 .left), c .make .ensures, ← (u32-at .u32-at .ensures), ← (u32-at2 .u32-at2 .ensures)) (ap (λ o. shows (didMake (start .args .m)) (onPairs (stateOf (start .args .m) (lists b t (pairSlots (start .args .firsts .now) (start .args .rests .now)))) o)) (new-pair .new-pair .ensures))
+    λ s. simp (eq-eqb _ _ (else1 .if1 .left), c .make .ensures, ← (u32-at .u32-at .ensures), ← (u32-at2 .u32-at2 .ensures)) (ap (λ o. shows (didMake (start .args .m)) (onPairs (stateOf (start .args .m) (lists (s .bytes) (s .atoms) (pairSlots (start .args .firsts .now) (start .args .rests .now)))) o)) (new-pair .new-pair .ensures))
 
 pub pair-spec : {M : Type 1} → statement M
 pair-spec =

@@ -53,7 +53,7 @@ returns-2 : tie.Need-returns-2
 returns-2 c =
     let new-substr : tie.After-new-substr = search in
     let (start, else1, u32-at, u32-at2, u32-at3) = earlier new-substr in
-    λ q. simp (eq-eqb _ _ (else1 .if1 .left), c .make .ensures, ← (u32-at .u32-at .ensures), ← (u32-at2 .u32-at2 .ensures), ← (u32-at3 .u32-at3 .ensures)) (ap (λ o. shows (didMake (start .args .m)) (onStore (stateOf (start .args .m) (lists (start .args .bytes .now) (atomSlots (start .args .starts .now) (start .args .ends .now)) q)) o)) (new-substr .new-substr .ensures))
+    λ q. simp (eq-eqb _ _ (else1 .if1 .left), c .make .ensures, ← (u32-at .u32-at .ensures), ← (u32-at2 .u32-at2 .ensures), ← (u32-at3 .u32-at3 .ensures)) (ap (λ o. shows (didMake (start .args .m)) (onStore (stateOf (start .args .m) (lists (start .args .bytes .now) (atomSlots (start .args .starts .now) (start .args .ends .now)) (q .pairs))) o)) (new-substr .new-substr .ensures))
 
 pub substr-spec : {M : Type 1} → statement M
 substr-spec =

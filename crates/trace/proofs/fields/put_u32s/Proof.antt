@@ -5,9 +5,9 @@ use lib.Seq.{take-suc-set, length-take-le}
 use lib.ListN.{length, take, length-set}
 use native.Mathlib.Omega.{arith}
 use native.Mathlib.Numerals.{add-one}
-use Prim.Native.Nat.{ℕ, _+_, _*_, _/_, _-_, _≤_, _<_}
+use Prim.Native.Nat.{ℕ, _+_, _/_, _-_, _≤_, _<_}
 use mathlib.Core.List.{List, [], _∷_, _++_}
-use mathlib.Core.Path.{_≡_, refl, sym, ap, ap₂, _∙_}
+use mathlib.Core.Path.{_≡_, refl, sym, ap₂}
 use Rattle.trace.proofs.fields.put_u32s.Statement.{statement}
 use Rattle.trace.proofs.fields.put_u32s.Tie as tie
 use Rattle.trace.proofs.fields.put_u32s.Reads as reads

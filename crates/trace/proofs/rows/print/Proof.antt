@@ -6,7 +6,7 @@ use Rattle.rules.specs.State.{lists, atomSlots, pairSlots}
 use lib.ListN.{length}
 use borrow.Author.Needs.{needs}
 use native.Mathlib.Omega.{arith}
-use Prim.Native.Nat.{_≤_, _<_, _-_, _+_}
+use Prim.Native.Nat.{_-_}
 use mathlib.Core.Path.{_≡_, refl, sym, ap, _∙_}
 use Rattle.trace.proofs.rows.print.Statement.{statement}
 use Rattle.trace.proofs.rows.print.Tie as tie

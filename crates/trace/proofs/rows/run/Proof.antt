@@ -4,8 +4,8 @@ use Rattle.rules.specs.State.{lists, atomSlots, pairSlots}
 use lib.ListN.{length, length-drop, length-take}
 use borrow.Author.Needs.{needs}
 use native.Mathlib.Omega.{arith}
-use Prim.Native.Nat.{_≤_, _<_, _-_, _+_}
-use mathlib.Core.Path.{_≡_, refl, sym, ap, _∙_}
+use Prim.Native.Nat.{_≤_, _-_}
+use mathlib.Core.Path.{_≡_, refl, _∙_}
 use Rattle.trace.proofs.rows.run.Statement.{statement}
 use Rattle.trace.proofs.rows.run.Tie as tie
 use Rattle.trace.proofs.rows.run.Reads as reads

@@ -1,6 +1,6 @@
 -- `trace::step::act` meets its contract: one call for each kind. Assumes nothing.
 use Rattle.trace.specs.Request.{requestOf}
-use Rattle.rules.specs.State.{lists, atomSlots, pairSlots}
+use Rattle.rules.specs.State.{lists, store, pairStore, atomSlots, pairSlots}
 use borrow.Author.Tests.{eq-eqb, ne-eqb}
 use borrow.Author.Needs.{needs}
 use Rattle.trace.proofs.step.act.Statement.{statement}
@@ -31,7 +31,7 @@ returns : tie.Need-returns
 unfolding requestOf
 returns c =
     let (start, then1, atom) : tie.Start × tie.Then1 × tie.After-atom = search in
-    simp (eq-eqb _ _ (then1 .if1 .taken)) (atom .atom .ensures (pairSlots (start .args .firsts .now) (start .args .rests .now)))
+    simp (eq-eqb _ _ (then1 .if1 .taken)) (atom .atom .ensures (pairStore (pairSlots (start .args .firsts .now) (start .args .rests .now))))
 
 pair-requires : tie.Need-pair-requires
 pair-requires c κs = search needs
@@ -46,7 +46,7 @@ returns-2 : tie.Need-returns-2
 unfolding requestOf
 returns-2 c =
     let (start, else1, then2, pair) : tie.Start × tie.Else1 × tie.Then2 × tie.After-pair = search in
-    simp (ne-eqb _ _ (else1 .if1 .left), eq-eqb _ _ (then2 .if2 .taken)) (pair .pair .ensures (start .args .bytes .now) (atomSlots (start .args .starts .now) (start .args .ends .now)))
+    simp (ne-eqb _ _ (else1 .if1 .left), eq-eqb _ _ (then2 .if2 .taken)) (pair .pair .ensures (store (start .args .bytes .now) (atomSlots (start .args .starts .now) (start .args .ends .now))))
 
 substr-requires : tie.Need-substr-requires
 substr-requires c κs = search needs
@@ -64,7 +64,7 @@ returns-3 : tie.Need-returns-3
 unfolding requestOf
 returns-3 c =
     let (start, else1, else2, then3, substr) : tie.Start × tie.Else1 × tie.Else2 × tie.Then3 × tie.After-substr = search in
-    simp (ne-eqb _ _ (else1 .if1 .left), ne-eqb _ _ (else2 .if2 .left), eq-eqb _ _ (then3 .if3 .taken)) (substr .substr .ensures (pairSlots (start .args .firsts .now) (start .args .rests .now)))
+    simp (ne-eqb _ _ (else1 .if1 .left), ne-eqb _ _ (else2 .if2 .left), eq-eqb _ _ (then3 .if3 .taken)) (substr .substr .ensures (pairStore (pairSlots (start .args .firsts .now) (start .args .rests .now))))
 
 concat-requires : tie.Need-concat-requires
 concat-requires c κs = search needs
@@ -82,7 +82,7 @@ returns-4 : tie.Need-returns-4
 unfolding requestOf
 returns-4 c =
     let (start, else1, else2, else3, then4, concat) : tie.Start × tie.Else1 × tie.Else2 × tie.Else3 × tie.Then4 × tie.After-concat = search in
-    simp (ne-eqb _ _ (else1 .if1 .left), ne-eqb _ _ (else2 .if2 .left), ne-eqb _ _ (else3 .if3 .left), eq-eqb _ _ (then4 .if4 .taken)) (concat .concat .ensures (pairSlots (start .args .firsts .now) (start .args .rests .now)))
+    simp (ne-eqb _ _ (else1 .if1 .left), ne-eqb _ _ (else2 .if2 .left), ne-eqb _ _ (else3 .if3 .left), eq-eqb _ _ (then4 .if4 .taken)) (concat .concat .ensures (pairStore (pairSlots (start .args .firsts .now) (start .args .rests .now))))
 
 small-number-requires : tie.Need-small-number-requires
 small-number-requires c κs = search needs

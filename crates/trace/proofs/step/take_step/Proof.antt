@@ -16,15 +16,30 @@ use Rattle.trace.proofs.machine.bad.Reads as bad-reads
 use Rattle.trace.proofs.step.act.Reads as act-reads
 use Rattle.trace.proofs.step.close.Reads as close-reads
 use Rattle.trace.proofs.step.frame_at.Reads as frame-at-reads
-    -- the row of what the record did can be made
 
+abbrev start-of : tie.After-known-told → tie.Start
+start-of c = search
+
+abbrev frame-of : tie.After-known-told → tie.After-frame
+frame-of c = search
+
+abbrev frame-at-of : tie.After-known-told → tie.After-frame-at
+frame-at-of c = search
+
+abbrev known-of : tie.After-known-told → tie.After-shared-slice-known
+known-of c = search
+
+-- the row of what the record did can be made
 able : (c : tie.After-act) → (c .act .result .machine .shown < 18446744073709551615) × Limits (c .act .result .machine .state)
 able c =
-    let (start, shared-slice-known, frame) : tie.Start × tie.After-shared-slice-known × tie.After-frame = search in
+    let told : tie.After-known-told = search in
+    let start = start-of told in
+    let frame = frame-of told in
     let s = start .args in
     closable (s .m) _ (start .pre .sane .rows-shown)
     (subst (Kept (s .m)) (sym (c .act .ensures))
-    (kind-kept (s .m) _ (start .pre) (frame .frame .given .0 .0) _ (part-octets (4 + frame .frame .given .0 .1 .0 - 4) 4 (s .rest .now) (λ i. omega (arith, shared-slice-known .shared-slice-known .given i)))))
+    (kind-kept (s .m) _ (start .pre) (frame .frame .given .0 .0) _
+    (part-octets (4 + frame .frame .given .0 .1 .0 - 4) 4 (s .rest .now) (λ i. omega (arith, known-of told .shared-slice-known .given i)))))
 
 frame-at-requires : tie.Need-frame-at-requires
 frame-at-requires c κs = search needs
@@ -48,15 +63,6 @@ returns c =
     let (frame-at, told, bad) : tie.After-frame-at × tie.After-enum-told × tie.After-bad = search in
     let e = sym (frame-at .frame-at .ensures) ∙ told .enum-told .given .1 in
     simp (e, c .close .ensures, bad .bad .ensures)
-
-abbrev start-of : tie.After-known-told → tie.Start
-start-of c = search
-
-abbrev frame-of : tie.After-known-told → tie.After-frame
-frame-of c = search
-
-abbrev frame-at-of : tie.After-known-told → tie.After-frame-at
-frame-at-of c = search
 
 add-end : tie.Need-add-end
 add-end c = omega (arith, frame-fits (start-of c .args .rest .now) (frame-of c .frame .given .0 .0) (frame-of c .frame .given .0 .1 .0) (sym (frame-at-of c .frame-at .ensures) ∙ frame-of c .frame .given .1))
