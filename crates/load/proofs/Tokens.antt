@@ -11,7 +11,7 @@ use Rattle.rules.specs.Small.{big}
 use Rattle.serial.proofs.Tokens.{parse-short}
 use Rattle.rules.specs.Serial.{baseOf, extra, broken, opening, string, lengthIn, prefixed, token}
 
--- where a pair's base, and where an atom's bytes lie
+-- where a pair opens, and where an atom's bytes lie
 module _ (f : List ℕ) (at : ℕ) where
   pub pair-inside : opening ≡ token f at → at < length f
   pair-inside e = parse-short f at opening (sym e) .inside

@@ -1,4 +1,4 @@
-// What stands in a program file at a place: a pair's base, an atom, or nothing that an item starts with.
+// What stands in a program file at a place: a pair's first byte, an atom, or nothing that an item starts with.
 ghost use mathlib.Core.Path.{_≡_};
 ghost use Prim.Native.Nat.{_≤_, _<_};
 ghost use lib.ListN.{length, getD};

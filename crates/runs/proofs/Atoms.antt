@@ -24,7 +24,7 @@ use Rattle.runs.specs.Makes.{shown, AtomIn}
 use Rattle.runs.proofs.Tests.{slot→}
 use Rattle.rules.proofs.Bytes.{octets-slice}
 
--- why a node is no atom: 5, 1 or 6
+-- why a node is no atom: 5 not valid, 1 unsound slot or 6 a pair
 pub data NoAtom (a : Allocator) (t : AtomSlots) (n : ℕ) : ℕ → ℕ → Type 0 where
   not-valid : (Valid (a .used .atoms) (a .used .pairs) (view n) → ⊥) → NoAtom a t n 5 nil
   bad-slot : (i : ℕ) → view n ≡ bytesAt i → i < a .used .atoms → atomSlotSound (a .used .bytes) t i ≡ false → NoAtom a t n 1 nil

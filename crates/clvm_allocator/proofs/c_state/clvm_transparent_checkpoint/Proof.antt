@@ -1,4 +1,4 @@
--- `clvm_allocator::c_state::clvm_transparent_checkpoint` meets its contract: what the call beneath promises, as numbers; a refusal leaves the row as it was.
+-- `clvm_allocator::c_state::clvm_transparent_checkpoint` meets its contract: what the call beneath promises, as numbers; a refusal leaves the words as they were.
 use mathlib.Core.Path.{sym, ap, ap₂, _∙_}
 use Rattle.rules.specs.Said.{noLists}
 use Rattle.rules.specs.Paper.{takenCountsPaper}

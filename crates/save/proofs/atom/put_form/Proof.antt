@@ -8,7 +8,7 @@ use borrow.Author.Needs.{needs}
 use Rattle.save.proofs.atom.put_form.Statement.{statement}
 use Rattle.save.proofs.atom.put_form.Tie as tie
 
--- behind the prefix there is room (for .before .before) the bytes
+-- behind the prefix there is room for the bytes
 room : (c : tie.After-put-prefix) →
     let start : tie.Start = search in
     c .put-prefix .result + length (start .args .v .now) ≤ length (c .put-prefix .last .1 .0)
