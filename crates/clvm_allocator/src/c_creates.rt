@@ -1,5 +1,5 @@
-// The calls that count: atoms, integers, pairs, ghosts, parts of atoms and atoms joined. One equation is a call's contract: the answer, the record's words
-// and the lent lists as the call leaves them.
+// The calls that count: atoms, integers, pairs, ghosts, parts of atoms. One equation is a call's contract: the answer, the record's
+// words and the lent lists as the call leaves them.
 use super::answers::CAnswer;
 use super::crossing;
 use creates::atom;

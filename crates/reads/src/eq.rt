@@ -135,7 +135,8 @@ fn pair_left(lhs: u32, right: Arg) -> Truth
     }
 }
 
-// Two arguments that passed 5 not valid and 1 unsound slot, or did not: then 6 with the left if it is a pair, else with the right.
+// Two arguments, each tested for 5 not valid and 1 unsound slot: the left's refusal, the right's, then 6 with the left if it is a pair, else
+// with the right.
 fn eq_args(bytes: &[u8], lhs: u32, rhs: u32, left: Arg, right: Arg) -> Truth
     requires { ⌜ Inside (length (now bytes)) (atomArg lhs (argPaper left)) × Inside (length (now bytes)) (atomArg rhs (argPaper right)) ⌝ }
     ensures { λ r. ⌜ truthPaper r ≡ eqArgs (now (bytes .entry)) lhs rhs (argPaper left) (argPaper right) ⌝ }
