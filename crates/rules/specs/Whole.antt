@@ -94,18 +94,31 @@ removeGhostPair amount s = alone s (C.removeGhostPair (s .rec) amount)
 abbrev pub addGhostAtom : ℕ → St → Whole Done
 addGhostAtom amount s = alone s (C.addGhostAtom (s .rec) amount)
 
--- one call of these, with its arguments as their types in the code have them
+-- one call of these, with its arguments
 pub data Making : Type 0 where
-  atom : (v : List ℕ) → Octets v → Making
+  atom : List ℕ → Making
   small-number : ℕ → Making
-  u64 : (x : ℕ) → x < 18446744073709551616 → Making
-  i64 : (z : ℤ) → mag z < 9223372036854775808 → Making
+  u64 : ℕ → Making
+  i64 : ℤ → Making
   pair : (first rest : ℕ) → Making
   substr : (n start end : ℕ) → Making
   concat : (size : ℕ) → List ℕ → Making
   ghost-pairs : ℕ → Making
   fewer-ghost-pairs : ℕ → Making
   ghost-atoms : ℕ → Making
+
+-- the arguments are as their types in the code have them
+abbrev pub Typed : Making → Type 0
+Typed (atom v) = Octets v
+Typed (small-number v) = Unit {0}
+Typed (u64 x) = x < 18446744073709551616
+Typed (i64 z) = mag z < 9223372036854775808
+Typed (pair first rest) = Unit {0}
+Typed (substr n start end) = Unit {0}
+Typed (concat size ns) = Unit {0}
+Typed (ghost-pairs amount) = Unit {0}
+Typed (fewer-ghost-pairs amount) = Unit {0}
+Typed (ghost-atoms amount) = Unit {0}
 
 -- the node that it makes; a ghost call makes none
 abbrev pub answersNode : Whole ℕ → Whole (Option ℕ)
@@ -115,10 +128,10 @@ abbrev pub answersNone : Whole Done → Whole (Option ℕ)
 answersNone o = record { said = saysOf (λ d. none) (o .said); next = o .next }
 
 abbrev pub call : Making → St → Whole (Option ℕ)
-call (atom v o) s = answersNode (newAtom v s)
+call (atom v) s = answersNode (newAtom v s)
 call (small-number v) s = answersNode (newSmallNumber v s)
-call (u64 x h) s = answersNode (newU64 x s)
-call (i64 z h) s = answersNode (newI64 z s)
+call (u64 x) s = answersNode (newU64 x s)
+call (i64 z) s = answersNode (newI64 z s)
 call (pair first rest) s = answersNode (newPair first rest s)
 call (substr n start end) s = answersNode (newSubstr n start end s)
 call (concat size ns) s = answersNode (newConcat size ns s)
@@ -169,7 +182,12 @@ pub data Way : Type 0 where
 abbrev pub nodeless : Whole Done → Whole Restoring
 nodeless o = record { said = saysOf (λ d. noReplace) (o .said); next = o .next }
 
+-- to any checkpoint; but for a plain restore its used counts alone are the checkpoint
+abbrev pub restoreTo : Way → Checkpoint → St → Whole Restoring
+restoreTo plainly k s = nodeless (plainTo k s)
+restoreTo transparently k s = nodeless (transparentTo (k .used) s)
+restoreTo (withNode n) k s = maybeTo (k .used) n s
+
+-- to the one that was taken in the state k
 abbrev pub restore : Way → St → St → Whole Restoring
-restore plainly k s = nodeless (plain k s)
-restore transparently k s = nodeless (transparent k s)
-restore (withNode n) k s = maybe k n s
+restore way k s = restoreTo way (checkpointOf (k .rec)) s

@@ -215,10 +215,10 @@ module _ {s : St} (w : WF s) where
   -- ---- every call
 
   pub call-cause : (m : Making) → RefusedBy (Cause m s) (call m s .said)
-  call-cause (atom v o) = as-well (AtomCause s v) some (newAtom v s .said) (atom-cause v)
+  call-cause (atom v) = as-well (AtomCause s v) some (newAtom v s .said) (atom-cause v)
   call-cause (small-number v) = as-well (NumberCause s v) some (newSmallNumber v s .said) (number-cause v)
-  call-cause (u64 x h) = as-well (AtomCause s (intBytes (pos x))) some (newAtom (intBytes (pos x)) s .said) (atom-cause (intBytes (pos x)))
-  call-cause (i64 z h) = as-well (AtomCause s (intBytes z)) some (newAtom (intBytes z) s .said) (atom-cause (intBytes z))
+  call-cause (u64 x) = as-well (AtomCause s (intBytes (pos x))) some (newAtom (intBytes (pos x)) s .said) (atom-cause (intBytes (pos x)))
+  call-cause (i64 z) = as-well (AtomCause s (intBytes z)) some (newAtom (intBytes z) s .said) (atom-cause (intBytes z))
   call-cause (pair first rest) = as-well (PairCause s first rest) some (newPair first rest s .said) (pair-cause first rest)
   call-cause (substr n start end) = as-well (PartCause s n start end) some (newSubstr n start end s .said) (part-cause n start end)
   call-cause (concat size ns) = as-well (JoinCause s size ns) some (newConcat size ns s .said) (join-cause size ns)

@@ -13,7 +13,7 @@ use Rattle.rules.specs.Said.{says, done, noLists, out, settle}
 use Rattle.rules.specs.State.{Lists, atoms, pairs, heap, wellFormed}
 use Rattle.rules.specs.Record.{fresh, newLimited}
 use Rattle.rules.proofs.Needs.{need-ind}
-use Rattle.rules.specs.Whole.{St, Whole, Making, make, plainTo, transparentTo, maybeTo}
+use Rattle.rules.specs.Whole.{St, Whole, Making, Typed, make, plainTo, transparentTo, maybeTo}
 use Rattle.runs.specs.Wf.{Sound, Shape, WF}
 use Rattle.runs.specs.Makes.{Outcome, refused, accepted}
 use Rattle.runs.proofs.Tests.{well-formed}
@@ -64,8 +64,8 @@ module _ (s : St) (o : Octets (s .lists .bytes)) (h : Checked s) where
   w : WF s
   w = checked-wf s o h
 
-  pub make-checked : (m : Making) → Checked (make m s)
-  make-checked m = wf-checked (make m s) (make-on w m .wf)
+  pub make-checked : (m : Making) → Typed m → Checked (make m s)
+  make-checked m t = wf-checked (make m s) (make-on w m t .wf)
 
   pub plain-checked : (k : Checkpoint) → Checked (plainTo k s .next)
   plain-checked k = wf-checked (plainTo k s .next) (kept (λ x s′ f. f w) w (plain-forms k s))

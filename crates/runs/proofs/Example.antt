@@ -31,16 +31,16 @@ s₀ = record { rec = newLimited 4294967295 .rec; lists = slots }
 
 -- an atom of 960 bytes; another of 48; back to the first; again one of 48; back to the start with it; back to the start
 pub s₁ : St
-s₁ = make (atom (replicate 960 7) (octets 7 (omega arith) 960)) s₀
+s₁ = make (atom (replicate 960 7)) s₀
 
 s₂ : St
-s₂ = make (atom (replicate 48 7) (octets 7 (omega arith) 48)) s₁
+s₂ = make (atom (replicate 48 7)) s₁
 
 s₃ : St
 s₃ = restore transparently s₁ s₂ .next
 
 s₄ : St
-s₄ = make (atom (replicate 48 7) (octets 7 (omega arith) 48)) s₃
+s₄ = make (atom (replicate 48 7)) s₃
 
 s₅ : St
 s₅ = restore (withNode 67108865) s₀ s₄ .next
@@ -71,7 +71,7 @@ begun = fresh 4294967295 slots (octets 0 (omega arith) 1008)
 -- both checkpoints taken, and the second atom made
 nested : Past s₂ (took s₁ ∷ took s₀ ∷ [])
 unfolding s₁ s₂
-nested = made (taken (made (taken begun) (atom (replicate 960 7) (octets 7 (omega arith) 960)))) (atom (replicate 48 7) (octets 7 (omega arith) 48))
+nested = made (taken (made (taken begun) (atom (replicate 960 7)) (octets 7 (omega arith) 960))) (atom (replicate 48 7)) (octets 7 (omega arith) 48)
 
 inner : Past s₃ (went 1 ∷ took s₁ ∷ took s₀ ∷ [])
 unfolding s₃
@@ -80,7 +80,7 @@ inner = subst (λ (r : Said Restoring). Past (restore transparently s₁ s₂ .n
 outer : Past s₅ (went 0 ∷ went 1 ∷ took s₁ ∷ took s₀ ∷ [])
 unfolding s₄ s₅
 outer = subst (λ (r : Said Restoring). Past (restore (withNode 67108865) s₀ s₄ .next) (noted r 0 (went 1 ∷ took s₁ ∷ took s₀ ∷ []))) second
-    (back (made inner (atom (replicate 48 7) (octets 7 (omega arith) 48))) (withNode 67108865) (past-restore (past-take (just-taken refl)) (omega arith)))
+    (back (made inner (atom (replicate 48 7)) (octets 7 (omega arith) 48)) (withNode 67108865) (past-restore (past-take (just-taken refl)) (omega arith)))
 
 pub walk : Past s₆ (went 0 ∷ went 0 ∷ went 1 ∷ took s₁ ∷ took s₀ ∷ [])
 unfolding s₆

@@ -7,7 +7,7 @@ use lib.Seq.{slice}
 use Rattle.rules.specs.Small.{Octets}
 use Rattle.rules.specs.Said.{Said, says, refuses, saysOf, Done}
 use Rattle.rules.specs.Restores.{noReplace}
-use Rattle.rules.specs.Whole.{St, Whole, load, Making, atom, pair, make, plain, Way, plainly, restore}
+use Rattle.rules.specs.Whole.{St, Whole, load, Making, Typed, atom, pair, make, plain, Way, plainly, restore}
 use Rattle.runs.specs.Wf.{WF}
 use Rattle.runs.specs.Loads.{Calls, no-call, atom-call, pair-call, LoadIs}
 use Rattle.runs.specs.Runs as Run
@@ -18,7 +18,7 @@ use Rattle.runs.proofs.Runs.{run-wf}
 
 -- what holds after each call, each checkpoint taken and each restore to a live one
 pub record Steps (P : St → List Event → Type 0) : Type 0 where
-  pub made : (s : St) (h : List Event) → P s h → (m : Making) → P (make m s) h
+  pub made : (s : St) (h : List Event) → P s h → (m : Making) → Typed m → P (make m s) h
   pub taken : (s : St) (h : List Event) → P s h → P s (took s ∷ h)
   pub back : (s k : St) (h : List Event) (c : ℕ) → P s h → (way : Way) → LiveAt c k h → P (restore way k s .next) (noted (restore way k s .said) c h)
 
@@ -30,8 +30,8 @@ loadEvents (refuses code node) s h = went (count h) ∷ took s ∷ h
 module _ {P : St → List Event → Type 0} (p : Steps P) where
   calls-by-steps : {f : List ℕ} {s t : St} {h : List Event} → Octets f → Calls f s t → P s h → P t h
   calls-by-steps o no-call x = x
-  calls-by-steps {f} {s} {t} {h} o (atom-call {t = u} c from to n e) x = p .made u h (calls-by-steps o c x) (atom (slice from to f) (octets-slice from to f o))
-  calls-by-steps {f} {s} {t} {h} o (pair-call {t = u} c first rest n e) x = p .made u h (calls-by-steps o c x) (pair first rest)
+  calls-by-steps {f} {s} {t} {h} o (atom-call {t = u} c from to n e) x = p .made u h (calls-by-steps o c x) (atom (slice from to f)) (octets-slice from to f o)
+  calls-by-steps {f} {s} {t} {h} o (pair-call {t = u} c first rest n e) x = p .made u h (calls-by-steps o c x) (pair first rest) tt
 
   -- a load holds it too
   pub load-by-steps : {s : St} {h : List Event} → WF s → P s h → (f : List ℕ) → Octets f → P (load f s .next) (loadEvents (load f s .said) s h)
@@ -45,7 +45,7 @@ module _ {P : St → List Event → Type 0} (p : Steps P) where
 
 -- a run with a load is a run of its calls, and of a restore where it is refused
 pub load-as-run : {s : St} {h : List Event} → Past s h → (f : List ℕ) → Octets f → Past (load f s .next) (loadEvents (load f s .said) s h)
-load-as-run x f o = load-by-steps (record { made = λ s h q m. Run.made q m; taken = λ s h q. Run.taken q; back = λ s k h c q way l. Run.back q way l }) (run-wf x) x f o
+load-as-run x f o = load-by-steps (record { made = λ s h q m t. Run.made q m t; taken = λ s h q. Run.taken q; back = λ s k h c q way l. Run.back q way l }) (run-wf x) x f o
 
 -- ---- the checkpoints that are live stay live
 

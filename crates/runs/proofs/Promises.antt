@@ -56,34 +56,34 @@ start-code limit l o r e =
 
 module _ {s : St} {h : List Event} (run : Past s h) where
   pub new-atom-code : (v : List ℕ) → Octets v → (r : Made) (t : Store) → made r t ≡ C.newAtom (s .rec) v (storeOf s) → Past (afterStore s (r .state) t) h
-  new-atom-code v o r t e = by-store s (made r t) _ e (Run.made run (atom v o))
+  new-atom-code v o r t e = by-store s (made r t) _ e (Run.made run (atom v) o)
 
   pub new-small-number-code : (v : ℕ) (r : Made) → made r noLists ≡ C.newSmallNumber (s .rec) v → Past (afterAlone s (r .state)) h
-  new-small-number-code v r e = by-alone s (made r noLists) _ e (Run.made run (small-number v))
+  new-small-number-code v r e = by-alone s (made r noLists) _ e (Run.made run (small-number v) tt)
 
   pub new-u64-code : (x : ℕ) → x < 18446744073709551616 → (r : Made) (t : Store) → made r t ≡ C.newU64 (s .rec) x (storeOf s) → Past (afterStore s (r .state) t) h
-  new-u64-code x b r t e = by-store s (made r t) _ e (Run.made run (u64 x b))
+  new-u64-code x b r t e = by-store s (made r t) _ e (Run.made run (u64 x) b)
 
   pub new-i64-code : (z : ℤ) → mag z < 9223372036854775808 → (r : Made) (t : Store) → made r t ≡ C.newI64 (s .rec) z (storeOf s) → Past (afterStore s (r .state) t) h
-  new-i64-code z b r t e = by-store s (made r t) _ e (Run.made run (i64 z b))
+  new-i64-code z b r t e = by-store s (made r t) _ e (Run.made run (i64 z) b)
 
   pub new-pair-code : (first rest : ℕ) (r : Made) (p : PairStore) → made r p ≡ C.newPair (s .rec) first rest (pairsOf s) → Past (afterPairs s (r .state) p) h
-  new-pair-code first rest r p e = by-pairs s (made r p) _ e (Run.made run (pair first rest))
+  new-pair-code first rest r p e = by-pairs s (made r p) _ e (Run.made run (pair first rest) tt)
 
   pub new-substr-code : (n start end : ℕ) (r : Made) (t : Store) → made r t ≡ C.newSubstr (s .rec) n start end (storeOf s) → Past (afterStore s (r .state) t) h
-  new-substr-code n start end r t e = by-store s (made r t) _ e (Run.made run (substr n start end))
+  new-substr-code n start end r t e = by-store s (made r t) _ e (Run.made run (substr n start end) tt)
 
   pub new-concat-code : (size : ℕ) (ns : List ℕ) (r : Made) (t : Store) → made r t ≡ C.newConcat (s .rec) size ns (storeOf s) → Past (afterStore s (r .state) t) h
-  new-concat-code size ns r t e = by-store s (made r t) _ e (Run.made run (concat size ns))
+  new-concat-code size ns r t e = by-store s (made r t) _ e (Run.made run (concat size ns) tt)
 
   pub add-ghost-pair-code : (amount : ℕ) (r : Changed) → changed r ≡ C.addGhostPair (s .rec) amount → Past (afterAlone s (r .state)) h
-  add-ghost-pair-code amount r e = by-alone s (changed r) _ e (Run.made run (ghost-pairs amount))
+  add-ghost-pair-code amount r e = by-alone s (changed r) _ e (Run.made run (ghost-pairs amount) tt)
 
   pub remove-ghost-pair-code : (amount : ℕ) (r : Changed) → changed r ≡ C.removeGhostPair (s .rec) amount → Past (afterAlone s (r .state)) h
-  remove-ghost-pair-code amount r e = by-alone s (changed r) _ e (Run.made run (fewer-ghost-pairs amount))
+  remove-ghost-pair-code amount r e = by-alone s (changed r) _ e (Run.made run (fewer-ghost-pairs amount) tt)
 
   pub add-ghost-atom-code : (amount : ℕ) (r : Changed) → changed r ≡ C.addGhostAtom (s .rec) amount → Past (afterAlone s (r .state)) h
-  add-ghost-atom-code amount r e = by-alone s (changed r) _ e (Run.made run (ghost-atoms amount))
+  add-ghost-atom-code amount r e = by-alone s (changed r) _ e (Run.made run (ghost-atoms amount) tt)
 
   -- ---- a program file
 

@@ -68,10 +68,10 @@ module _ (s : St) where
 
   pub call-refused : (m : Making) → Harmless s (call m s)
   unfolding C.addGhostPair C.removeGhostPair C.addGhostAtom
-  call-refused (atom v o) = node-harmless (atom-refused v)
+  call-refused (atom v) = node-harmless (atom-refused v)
   call-refused (small-number v) = node-harmless (settled-alone (smallTests (s .rec) v) _ λ d. accepted _ _ tt)
-  call-refused (u64 x h) = node-harmless (atom-refused (intBytes (pos x)))
-  call-refused (i64 z h) = node-harmless (atom-refused (intBytes z))
+  call-refused (u64 x) = node-harmless (atom-refused (intBytes (pos x)))
+  call-refused (i64 z) = node-harmless (atom-refused (intBytes z))
   call-refused (pair first rest) = node-harmless (settled-pairs (pairTests (s .rec) first rest (pairsOf s)) _ λ d. accepted _ _ tt)
   call-refused (substr n start end) = node-harmless (settled (substrTests (s .rec) n start end (storeOf s)) _ λ x. substr-put x start end)
   call-refused (concat size ns) = node-harmless (settled (concatTests (s .rec) size (storeOf s)) _ λ d. concat-put size ns)

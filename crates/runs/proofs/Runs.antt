@@ -129,7 +129,7 @@ return c h ch r (replaced-one m p) = r .cut _ p
 chain : {s : St} {h : List Event} → Past s h → Chain (points h) s
 unfolding points
 chain (fresh limit l o) = end (fresh-wf limit l o)
-chain (made r m) = let c = chain r in grow c (make-on (wf-of c) m)
+chain (made r m t) = let c = chain r in grow c (make-on (wf-of c) m t)
 chain (read r) = chain r
 chain (taken r) = let c = chain r in over c (on-refl (wf-of c))
 chain (loaded r f o) = let c = chain r in grow c (load-on (wf-of c) f o)

@@ -105,10 +105,10 @@ pub data JoinCause (s : St) (size : ℕ) : List ℕ → ℕ → ℕ → Type 0 w
 
 -- of one call
 abbrev pub Cause : Making → St → ℕ → ℕ → Type 0
-Cause (atom v o) s = AtomCause s v
+Cause (atom v) s = AtomCause s v
 Cause (small-number v) s = NumberCause s v
-Cause (u64 x h) s = AtomCause s (intBytes (pos x))
-Cause (i64 z h) s = AtomCause s (intBytes z)
+Cause (u64 x) s = AtomCause s (intBytes (pos x))
+Cause (i64 z) s = AtomCause s (intBytes z)
 Cause (pair first rest) s = PairCause s first rest
 Cause (substr n start end) s = PartCause s n start end
 Cause (concat size ns) s = JoinCause s size ns

@@ -12,7 +12,7 @@ use Rattle.rules.specs.State.{Lists, startAt, endAt, heap}
 use Rattle.rules.specs.Record.{newLimited}
 use Rattle.rules.specs.Restores.{Restoring, noReplace, replace, aborted, savings}
 use Rattle.rules.specs.Tree.{Tree, tree}
-use Rattle.rules.specs.Whole.{St, Whole, Making, make, load, plain, transparent, maybe, Way, restore}
+use Rattle.rules.specs.Whole.{St, Whole, Making, Typed, make, load, plain, transparent, maybe, Way, restore}
 use Rattle.runs.specs.Wf.{ValidIn, Same, Room}
 use Rattle.runs.specs.ByCalls.{ReadsAs, SameAnswers}
 use Rattle.runs.specs.Back.{Totals}
@@ -50,7 +50,7 @@ noted (refuses code node) c h = h
 -- The slots may hold anything at first. Refused calls are part of it, and so are calls that only read.
 pub data Past : St → List Event → Type 0 where
   fresh : (limit : ℕ) (l : Lists) → Octets (l .bytes) → Past (record { rec = newLimited limit .rec; lists = l }) []
-  made : {s : St} {h : List Event} → Past s h → (m : Making) → Past (make m s) h
+  made : {s : St} {h : List Event} → Past s h → (m : Making) → Typed m → Past (make m s) h
   read : {s : St} {h : List Event} → Past s h → Past s h
   taken : {s : St} {h : List Event} → Past s h → Past s (took s ∷ h)
   back : {s k : St} {h : List Event} {c : ℕ} → Past s h → (way : Way) → LiveAt c k h

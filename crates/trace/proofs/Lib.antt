@@ -1,4 +1,4 @@
 -- Laws of the request program, and the theorems about its text.
-pub mod Keep
+pub mod Steps
 pub mod Traces
 pub mod Whole

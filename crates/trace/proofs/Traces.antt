@@ -12,14 +12,14 @@ use borrow.Author.Tests.{eqb-false, eq-eqb, ne-eqb}
 use Rattle.rules.specs.Small.{Octets}
 use Rattle.rules.specs.State.{Lists}
 use Rattle.text.specs.Text.{Put, rowText}
-use Rattle.trace.specs.declared.machine.Machine.{Machine}
+use Rattle.machine.specs.declared.Machine.{Machine}
 use Rattle.trace.specs.declared.rows.Moved.{Moved}
 use Rattle.trace.specs.declared.rows.Ran.{Ran}
 use Rattle.trace.specs.Step.{Stepped, stepOn}
-use Rattle.trace.specs.Sane.{Ready}
+use Rattle.machine.specs.Sane.{Ready}
 use Rattle.trace.specs.Trace.{endOf, rowThen, traceTo, traceOf}
 use Rattle.trace.specs.Run.{nextOf, Advanced, ranOf, Ended, RanFrom}
-use Rattle.trace.proofs.Keep.{step-facts}
+use Rattle.trace.proofs.Steps.{step-facts}
 
 -- ---- one record at a time
 

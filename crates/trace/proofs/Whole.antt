@@ -10,10 +10,10 @@ use borrow.Author.Tests.{le-leb, lt-leb}
 use Rattle.rules.specs.Small.{Octets}
 use Rattle.rules.specs.State.{Lists}
 use Rattle.text.specs.Text.{Put, headText, longText}
-use Rattle.trace.specs.declared.machine.Machine.{Machine}
+use Rattle.machine.specs.declared.Machine.{Machine}
 use Rattle.trace.specs.declared.rows.Ran.{Ran}
-use Rattle.trace.specs.Machine.{freshMachine}
-use Rattle.trace.specs.Sane.{Ready}
+use Rattle.machine.specs.Machine.{freshMachine}
+use Rattle.machine.specs.Sane.{Ready}
 use Rattle.trace.specs.Trace.{traceOf, textOf}
 use Rattle.trace.specs.Run.{RanFrom, joined, Pieces, last, more}
 

@@ -1,8 +1,4 @@
--- The request program as definitions over `rules` (document 01, "The request program").
-pub mod Bytes
-pub mod Request
-pub mod Machine
-pub mod Sane
+-- The request program's text as definitions over `machine` and `request` (document 01, "The request program").
 pub mod Step
 pub mod Trace
 pub mod Run

@@ -8,10 +8,10 @@ use lib.Dec.{eqb}
 use lib.ListN.{length, take, drop}
 use Rattle.rules.specs.State.{Lists}
 use Rattle.text.specs.Text.{Put}
-use Rattle.trace.specs.declared.machine.Machine.{Machine}
+use Rattle.machine.specs.declared.Machine.{Machine}
 use Rattle.trace.specs.declared.rows.Moved.{Moved}
 use Rattle.trace.specs.declared.rows.Ran.{Ran}
-use Rattle.trace.specs.Sane.{Ready}
+use Rattle.machine.specs.Sane.{Ready}
 use Rattle.trace.specs.Trace.{endOf, traceOf}
 
 -- what is still to be printed after a record of a size: the last line, or the rest's text

@@ -5,18 +5,27 @@ use mathlib.Core.List.{List}
 use lib.Dec.{eqb}
 use Rattle.rules.specs.State.{Lists, atoms, pairs, heap}
 use Rattle.text.specs.declared.Row.{Row}
-use Rattle.trace.specs.declared.machine.Machine.{Machine}
-use Rattle.trace.specs.declared.machine.Did.{Did}
+use Rattle.text.specs.declared.Shown as text
+use Rattle.text.specs.declared.Shown.the-variants as column
+use Rattle.machine.specs.declared.Named.{Named}
+use Rattle.machine.specs.declared.Named.the-variants.{Node, Nothing}
+use Rattle.machine.specs.declared.Machine.{Machine}
+use Rattle.machine.specs.declared.Did.{Did}
 use Rattle.trace.specs.declared.step.Step.{Step}
-use Rattle.trace.specs.Request.{frameOf, frameSize, requestAt}
-use Rattle.trace.specs.Machine.{Acted, actOf}
+use Rattle.request.specs.Request.{frameOf, frameSize, requestAt}
+use Rattle.machine.specs.Machine.{Acted, actOf}
+
+-- the node's column: a node, or `-`
+abbrev pub columnOf : Named → text.Shown
+columnOf (Node n) = column.Node n
+columnOf Nothing = column.Nothing
 
 -- record number from 1, code, node, and the totals after the record: used + ghost
 abbrev pub rowOf : Did → ℕ → Row
 rowOf d n = record {
   n = n;
-  code = d .code;
-  node = d .node;
+  code = d .told .code;
+  node = columnOf (d .told .node);
   atoms = atoms (d .machine .state);
   pairs = pairs (d .machine .state);
   heap = heap (d .machine .state);
@@ -31,7 +40,7 @@ abbrev pub closed : Did → ℕ → Step
 closed d size = record {
   machine = withRow (d .machine);
   row = rowOf d (d .machine .shown + 1);
-  size = cond (eqb (d .code) 16) 0 size;
+  size = cond (eqb (d .told .code) 16) 0 size;
 }
 
 pub record Stepped : Type 0 where

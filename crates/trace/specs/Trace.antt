@@ -7,8 +7,8 @@ use lib.ListN.{length, drop}
 use Rattle.rules.specs.State.{Lists}
 use Rattle.text.specs.declared.Row.{Row}
 use Rattle.text.specs.Text.{rowText, headText, endText, longText}
-use Rattle.trace.specs.declared.machine.Machine.{Machine}
-use Rattle.trace.specs.Machine.{freshMachine}
+use Rattle.machine.specs.declared.Machine.{Machine}
+use Rattle.machine.specs.Machine.{freshMachine}
 use Rattle.trace.specs.Step.{stepOn}
 
 -- the last line: records shown, then released

@@ -1,8 +1,4 @@
-// The request program's library: what a record asks, what it does, its row, and the text of a whole input.
-mod creating;
-pub mod fields;
-pub mod machine;
+// The request program's library: the row of each record, and the text of a whole input.
 pub mod program;
-mod restoring;
 pub mod rows;
 mod step;

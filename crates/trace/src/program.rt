@@ -1,6 +1,5 @@
-// The request program: standard input in, its text out.
+// The request program: records in, their text to standard output.
 use crate::rows;
-use libc::STDIN_FILENO;
 ghost use mathlib.Core.Path.{_≡_};
 ghost use lib.ListN.{length};
 
@@ -23,10 +22,10 @@ fn slots() -> [u32; 2048]
     [0; 2048]
 }
 
-// Reads records and prints their rows, with the stores of document 01.
-pub fn replay() {
+// Reads records from an open file and prints their rows, with the stores of document 01.
+pub fn replay(fd: i32) {
     let mut input = input_buffer();
-    let n = io::read_full(STDIN_FILENO, &mut input);
+    let n = io::read_full(fd, &mut input);
     let mut bytes = byte_store();
     let mut starts = slots();
     let mut ends = slots();

@@ -1,13 +1,12 @@
 // All records of an input: their rows, and the text in one piece or in several.
-use crate::machine;
-use crate::machine::Machine;
 use crate::step;
 use libc::STDOUT_FILENO;
+use machine::Machine;
 ghost use mathlib.Core.Path.{_≡_};
 ghost use Prim.Native.Nat.{_+_, _*_, _≤_, _<_};
 ghost use lib.ListN.{length};
 ghost use Rattle.rules.specs.Lent.{listsIn};
-ghost use Rattle.trace.specs.Sane.{Ready};
+ghost use Rattle.machine.specs.Sane.{Ready};
 ghost use Rattle.trace.specs.Trace.{textOf};
 ghost use Rattle.trace.specs.Run.{Advanced, Ended, RanFrom};
 
@@ -49,7 +48,10 @@ fn advance(
         m (listsIn (bytes .entry) (starts .entry) (ends .entry) (firsts .entry) (rests .entry)) (now (rest .entry)) (now (out .entry)) w
         (listsIn (bytes .exit) (starts .exit) (ends .exit) (firsts .exit) (rests .exit)) (now (out .exit)) r ⌝ }
 {
-    let s = step::take_step(m, bytes, starts, ends, firsts, rests, rest);
+    let asked = request::read(rest);
+    let request = asked.request;
+    let d = machine::act(m, bytes, starts, ends, firsts, rests, rest, request);
+    let s = step::close(d, asked.size);
     let row = s.row;
     let machine = s.machine;
     let wrote = text::put_row(out, w, row);

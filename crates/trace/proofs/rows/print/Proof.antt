@@ -15,7 +15,7 @@ use Rattle.trace.proofs.rows.print.Lts as lts
 use Rattle.io.proofs.write_all.Reads as write-all-reads
 use Rattle.text.proofs.put_head.Reads as put-head-reads
 use Rattle.text.proofs.put_long.Reads as put-long-reads
-use Rattle.trace.proofs.machine.fresh.Reads as fresh-reads
+use Rattle.machine.proofs.fresh.Reads as fresh-reads
 use Rattle.trace.proofs.rows.run.Reads as run-reads
 
 -- `trace::rows::print` meets its contract: what was sent and what is still to come are as long as the text, and each piece gets on.

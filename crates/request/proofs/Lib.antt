@@ -1,0 +1,3 @@
+-- Laws about records.
+pub mod Frames
+pub mod Fine
