@@ -55,12 +55,13 @@ class Table(Recorder):
         return lambda *args, **wants: self.ask(name, *args, **wants)
 
     def ask(self, name, *args, want=None, part=None):
-        """A call, and its node. `want` is how its code, node and values begin, `part` the bytes that `atom` shows."""
+        """A call, and its node. `want` is how its code, node and values begin, `part` the stored bytes that `atom` shows."""
         code, node, values = self.call(name, *args)
         if want is not None:
             assert (code, node, *values)[:len(want)] == want, (self.lines[-1], want)
         if part is not None:
-            assert code == 0 and self.model.bytes_of(args[0]) == part, (self.lines[-1], part)
+            place, start, length = values
+            assert place == "bytes" and self.model.lists[place][start:start + length] == part, (self.lines[-1], part)
         return node
 
     def is_record(self, *seven):
@@ -110,7 +111,7 @@ def base_state(t):
 
 
 def node_bits(t):
-    """NodePtr."""
+    """The calls on a node alone."""
     t.say("the bits of a node: a kind above 2 gives 5")
     for n in (0, 1, 67108863, stored(0), stored(67108863), small(0), small(1), small(67108863), 3 << 26, (3 << 26) + 5, 63 << 26, TOP):
         t.object_type(n)
@@ -120,14 +121,14 @@ def node_bits(t):
 
 
 def lengths(t):
-    """len_for_value."""
+    """How many bytes a value takes."""
     t.say("len_for_value: 2^7, 2^15, 2^23, 2^31 take a byte more; the largest small value takes four")
     for v in (0, 1, 127, 128, 255, 256, 32767, 32768, 65535, 65536, 8388607, 8388608, 67108863, 67108864, 2147483647, 2147483648, TOP):
         t.len_for_value(v)
 
 
 def fitting(t):
-    """fits_in_small_atom."""
+    """Which bytes are small."""
     t.say("fits_in_small_atom: document 01's eight, then each sentence from both sides")
     for v, value in ((b"", 0), (b"\0", None), (b"\x7f", 127), (b"\x80", None), (b"\0\x7f", None), (b"\0\x80", 128),
                      (b"\3\xff\xff\xff", 67108863), (b"\4\0\0\0", None)):
@@ -150,7 +151,7 @@ def every_read(t):
 
 
 def equal_atoms(t):
-    """atom_eq."""
+    """Atoms beside each other."""
     t.say("atom_eq: the bytes decide, whatever the kinds; left 5 and 1, right 5 and 1, then 6 with the left pair, else with the right")
     same = {stored(1): small(128), stored(5): small(67108863), stored(7): small(127), stored(9): NIL}
     for n, m in same.items():
@@ -170,7 +171,7 @@ def equal_atoms(t):
 
 
 def scratches(t):
-    """atom."""
+    """Where an atom shows its bytes."""
     t.say("atom: a small atom with a scratch of another length gives 15, after 1, 5, 1 and 6; Bytes nodes and refusals leave the scratch")
     for scratch in (0, 1, 3, 4, 5, 8):
         for n in (NIL, small(1), small(67108863), stored(4), stored(9), pair(0), stored(10)):
@@ -178,7 +179,7 @@ def scratches(t):
 
 
 def statuses(t):
-    """checkpoint_node_status."""
+    """Nodes beside a checkpoint."""
     t.say("checkpoint_node_status: 5, small Before, below the checkpoint's count Before, a later pair AfterNewBytes, later Bytes by their start")
     for k in (Record(0, 0, 0, 0, 0, 0, 0), Record(USED, 10, 3, 0, 0, 0, 0), Record(8, 4, 1, 0, 0, 0, 0), Record(13, 4, 2, 0, 0, 0, 0),
               Record(9, 5, 1, 0, 0, 0, 0), Record(LARGEST, 0, 0, 0, 0, 0, 0), Record(0, LARGEST, LARGEST, 0, 0, 0, 0)):
@@ -187,7 +188,7 @@ def statuses(t):
 
 
 def unsound_atom_slots(t):
-    """1 for an atom slot."""
+    """Atom slots that are not sound: 1 where they are read."""
     t.say("unsound atom slots: start > end, end > used bytes; the slot is judged only where it is read")
     base_state(t)
     for i, start, end in ((0, 1, 0), (0, 0, USED + 1), (9, USED + 1, USED + 1), (9, USED, USED), (9, 0, USED), (4, 5, 4), (4, TOP, TOP), (4, 0, TOP)):
@@ -211,7 +212,7 @@ def unsound_atom_slots(t):
 
 
 def unsound_pair_slots(t):
-    """1 for a pair slot."""
+    """Pair slots that are not sound: 1 where they are read."""
     t.say("unsound pair slots: a pair child at its own index or past it, a child that is not valid, a kind above 2; on either side")
     base_state(t)
     for child in (pair(1), pair(2), pair(3), pair(67108863), stored(10), stored(67108863), 3 << 26, TOP, pair(0), stored(9), small(67108863)):
@@ -261,7 +262,7 @@ RECORDS = (
 
 
 def unsound_records(t):
-    """1 for the record."""
+    """Records that are not sound: 1 first of all."""
     t.say("records at a limit and one past it, on the calls that are lent no slice")
     base_state(t)
     for seven in RECORDS:
@@ -276,7 +277,7 @@ def unsound_records(t):
 
 
 def short_lists(t):
-    """1 for a record that does not fit the lists."""
+    """Records that do not fit the lists: 1 as well."""
     t.say("used counts that fit the slices lent, and one past each: 1 where that slice is lent to the call")
     for short in ({}, dict(bytes=USED - 1), dict(starts=9), dict(ends=9), dict(firsts=2), dict(rests=2), dict(starts=64, ends=9), dict(starts=9, ends=64),
                   dict(firsts=64, rests=2), dict(firsts=2, rests=64), dict(bytes=0), dict(starts=0, ends=0), dict(firsts=0, rests=0)):
@@ -292,7 +293,7 @@ def short_lists(t):
 
 
 def fresh(t):
-    """new_limited."""
+    """What a record begins as."""
     t.say("new_limited: ghosts 2, 0, 1; a limit above 4,294,967,295 gives 1 and the record for limit 0")
     for limit in (0, 1, 3, TOP - 1, TOP, TOP + 1, LARGEST):
         t.new_limited(limit)
@@ -352,7 +353,7 @@ def new_atoms_refused(t):
 
 
 def new_small_numbers(t):
-    """new_small_number."""
+    """Small numbers."""
     t.say("new_small_number: 13, 2, 3")
     t.new_limited(6)
     for v in (67108864, TOP, 67108863, 67108863, 0, 1, 2):
@@ -379,7 +380,7 @@ THRESHOLDS = [1 << b for b in (7, 15, 23, 31, 39, 47, 55, 63)]
 
 
 def integers(t):
-    """new_u64 and new_i64."""
+    """The bytes of integers."""
     t.say("new_u64: shortest big-endian two's complement at every threshold and beside it, zero empty; then what was made")
     t.lend()
     for x in sorted({0, 1, 2, 255, 256, 65535, 65536, 67108863, 67108864, LARGEST - 1, LARGEST}
@@ -465,7 +466,7 @@ def new_pairs_refused(t):
 
 
 def ghosts(t):
-    """The ghost calls."""
+    """Ghosts that are added and removed."""
     t.say("ghost calls: 4 or 3 if the room up to 62,500,000 is under the amount; removal 14")
     t.new_limited(0)
     t.set(pairs=3)
@@ -751,7 +752,7 @@ def later(t, second, limit=4000):
 
 
 def results_kept(t):
-    """AfterOldBytes, AfterNewBytes."""
+    """Results that outlive a restore: by a slot over old bytes, or by a copy."""
     t.say("AfterOldBytes: the same range in a new slot; an end at the checkpoint's bytes is in, one past it gives 12")
     for second in ((0, 100), (99, 100), (99, 101), (99, 99), (50, 60), (0, 0), (0, 1300), (99, 1300)):
         k = later(t, second)
@@ -769,7 +770,7 @@ def results_kept(t):
 
 
 def unsound_results(t):
-    """Slots that are read or not."""
+    """Results whose slot is not sound, and pairs."""
     t.say("a slot that must be read and is unsound: 1, and nothing is changed")
     for second in ((9, 8), (0, 1301), (1301, 1301), (TOP, TOP)):
         k = later(t, second)
@@ -788,7 +789,7 @@ def unsound_results(t):
 
 
 def heap_past_limit(t):
-    """2 of maybe_restore_with_node; savings."""
+    """A heap that is past its limit; what a restore saves."""
     t.say("2 if heap > limit, after the pair and the 48 bytes, not for a shared range nor for NoReplace")
     for limit in (1301, 1300):
         for n, second in ((2, (200, 248)), (2, (200, 249)), (2, (200, 200)), (2, (0, 100)), (2, (99, 101)), (0, (0, 0)), (1, (0, 0))):
@@ -820,7 +821,7 @@ def three(t, k, n=NIL, want=None):
 
 
 def usable(t):
-    """11."""
+    """Checkpoints that are not usable: 11."""
     t.say("usable: none of the three used counts above the present one; otherwise 11 from all three restores, after 1 and before the savings")
     k = later(t, (0, 100))
     for change in (dict(), dict(bytes=1300, atoms=3, pairs=2), dict(bytes=1301), dict(atoms=4), dict(pairs=3), dict(bytes=LARGEST), dict(atoms=LARGEST), dict(pairs=LARGEST),
@@ -875,7 +876,7 @@ def transparent(t):
 
 
 def first_of_all(t):
-    """1 of restores; lists lent exactly."""
+    """1 before all else; lists lent exactly."""
     t.say("1 comes first: an unsound record, or used counts past a slice that is lent")
     k = later(t, (0, 100))
     for lent in (dict(bytes=1299), dict(starts=2), dict(ends=2), dict(firsts=1), dict(rests=1), dict(bytes=1300, starts=3, ends=3, firsts=2, rests=2)):

@@ -97,7 +97,6 @@ def shortest(t, name, *file, out=None, **lent):
         shortest(t, name + "-back", out, **lent)
 
 
-
 def accepted_short(t):
     """Atoms of few bytes."""
     t.about("first bytes and prefixes that are read; the writer uses the shortest")
@@ -147,7 +146,7 @@ def accepted_long(t):
 
 
 def broken(t):
-    """17."""
+    """Files that are no tree: 17."""
     t.about("bad encoding: 17, at the place of the item that starts there")
 
     def one(name, place, *file, **lent):
@@ -401,7 +400,7 @@ def saves_of_slots(t):
 
 
 def saves_short(t):
-    """19."""
+    """Too little room for the file: 19."""
     t.about("save: 19 at the first byte of an atom, at its prefix, at its last byte; at an ff")
     long = put_bytes(repeated(70, LONG)), put_atom(0, 0, 64), put_atom(1, 0, 63)
     for name, node, n in (("nil", NIL, 1), ("5", small(5), 1), ("128", small(128), 3), ("64", stored(0), 66), ("63", stored(1), 64)):

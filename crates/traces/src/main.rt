@@ -1,6 +1,6 @@
 // Runs a table of inputs through `trace` and compares each text with the one expected of it; prints one line a case.
-// The table is data/inputs, the texts are data/texts. Both are made by data/make.py, and data/model.py reckons the texts: a model
-// of document 01's rules in Python that shares nothing with the code.
+// The table is data/inputs, the texts are data/texts. Both are made by make.py; the texts are reckoned by the model of documents 01 and
+// 02 in the folder model, in Python, which shares nothing with the code.
 use libc::STDOUT_FILENO;
 use trace::rows;
 ghost use mathlib.Core.Path.{_≡_};
