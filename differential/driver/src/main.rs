@@ -4,6 +4,7 @@
 mod compare;
 mod edges;
 mod fault;
+mod lines;
 mod listed;
 mod make;
 mod paper;

@@ -1,18 +1,24 @@
 #!/usr/bin/env python3
-# Writes `inputs` and `texts`, the table that the program `traces` runs, and ../stdout, a line `NAME ok` for each case:
-# `python3 make.py` in this folder. The texts are reckoned by model.py, which shares nothing with the code.
+# Writes data/inputs and data/texts, the table that the program `traces` runs, and stdout, a line `NAME ok` for each case:
+# `python3 crates/traces/make.py`. The texts are reckoned by the model of documents 01 and 02 in the folder model, which shares nothing
+# with the code.
 # A case of `inputs` is 40 bytes (its name, padded with spaces to 32; the input's length and its text's, u32 little-endian each)
 # and then the input; `texts` is the texts, one behind the other.
 #
 # Codes that no input reaches: 1, since a run's record and slots stay sound (proved: trace/proofs/Keep). 2 is reached only by a
 # concat's size: new_atom and new_small_number would need a heap near 2^32, and 65,536 bytes of records cannot count so much; the 2
 # of a restore would need a heap above the limit.
-import model
 import os
 import struct
+import sys
 
-NIL = model.NIL
-ATOM = 1 << 26          # the first Bytes node
+HERE = os.path.dirname(os.path.abspath(__file__))
+sys.path.insert(0, os.path.join(HERE, os.pardir, os.pardir))
+
+from model import requests
+from model.allocator import MOST, NIL, stored
+
+ATOM = stored(0)        # the first Bytes node
 
 
 def rec(kind, payload=b''):
@@ -72,7 +78,6 @@ def long(n, byte=0xff):
     return atom(bytes([byte]) * n)
 
 
-MOST = model.MOST
 cases = {}
 
 # ---- the shape of the text
@@ -157,7 +162,7 @@ cases['cut-short-16'] = small(7) + atom(b'abcdef')[:-1]
 cases['cut-short-longest-16'] = struct.pack('<HH', 65535, 1) + b'\xff' * 65532
 for kind in (0, 13, 256, 65535):
     cases[f'kind-{kind}-16'] = small(7) + rec(kind) + small(8)
-for kind, size in sorted(model.SIZES.items()):
+for kind, size in sorted(requests.SIZES.items()):
     for n in (size - 1, size + 1):
         if n >= 0:
             cases[f'kind-{kind}-of-{n}-16'] = checkpoint() + rec(kind, b'\0' * n) + small(8)
@@ -165,17 +170,23 @@ for n in (0, 4, 7, 9, 10, 11, 13):
     cases[f'kind-4-of-{n}-16'] = checkpoint() + rec(4, b'\0' * n) + small(8)
 
 # ---- the longest input: 65,536 bytes, of the shortest records, of one atom, of concats
-cases['longest-checkpoints'] = checkpoint() * 16384
+cases['longest-marks'] = checkpoint() * 16384
 cases['longest-atom'] = long(65532)
 cases['longest-concat'] = concat(0, *[NIL] * 16380) + checkpoint()
 cases['longest-pairs'] = (checkpoint() + b''.join(atom(bytes([i % 256, i % 251, i % 13])) + pair(NIL, NIL) + maybe(0, NIL) for i in range(2400)))[:65536]
 
-folder = os.path.dirname(os.path.abspath(__file__))
-with open(os.path.join(folder, 'inputs'), 'wb') as inputs, open(os.path.join(folder, 'texts'), 'w') as texts:
-    for name, data in cases.items():
-        assert len(data) <= 65536 and len(name) <= 32, name
-        text = model.text(data)
-        inputs.write(name.ljust(32).encode() + struct.pack('<II', len(data), len(text)) + data)
-        texts.write(text)
-with open(os.path.join(folder, os.pardir, 'stdout'), 'w') as lines:
-    lines.write(''.join(f'{name} ok\n' for name in cases))
+
+def main():
+    data = os.path.join(HERE, 'data')
+    with open(os.path.join(data, 'inputs'), 'wb') as inputs, open(os.path.join(data, 'texts'), 'w') as texts:
+        for name, content in cases.items():
+            assert len(content) <= requests.LONGEST and len(name) <= 32, name
+            text = requests.text(content)
+            inputs.write(name.ljust(32).encode() + struct.pack('<II', len(content), len(text)) + content)
+            texts.write(text)
+    with open(os.path.join(HERE, 'stdout'), 'w') as lines:
+        lines.write(''.join(f'{name} ok\n' for name in cases))
+
+
+if __name__ == '__main__':
+    main()
