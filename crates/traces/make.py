@@ -1,11 +1,9 @@
 #!/usr/bin/env python3
-# Writes data/inputs and data/texts, the table that the program `traces` runs, and stdout, a line `NAME ok` for each case:
-# `python3 crates/traces/make.py`. The texts are reckoned by the model of documents 01 and 02 in the folder model, which shares nothing
-# with the code.
-# A case of `inputs` is 40 bytes (its name, padded with spaces to 32; the input's length and its text's, u32 little-endian each)
-# and then the input; `texts` is the texts, one behind the other.
+# Writes the traces that the program `traces` replays, data/NAME.trace, its arguments, args, and what it must print, stdout:
+# `python3 crates/traces/make.py`. The texts are reckoned by the model of documents 01 and 02 in the folder model, which shares
+# nothing with the code. To see where the program prints something else: diff crates/traces/stdout target/log/traces.stdout
 #
-# Codes that no input reaches: 1, since a run's record and slots stay sound (proved: trace/proofs/Keep). 2 is reached only by a
+# Codes that no input reaches: 1, since a run's record and slots stay sound (proved: machine/proofs/Kept). 2 is reached only by a
 # concat's size: new_atom and new_small_number would need a heap near 2^32, and 65,536 bytes of records cannot count so much; the 2
 # of a restore would need a heap above the limit.
 import os
@@ -170,22 +168,27 @@ for n in (0, 4, 7, 9, 10, 11, 13):
     cases[f'kind-4-of-{n}-16'] = checkpoint() + rec(4, b'\0' * n) + small(8)
 
 # ---- the longest input: 65,536 bytes, of the shortest records, of one atom, of concats
-cases['longest-marks'] = checkpoint() * 16384
+cases['longest-checkpoints'] = checkpoint() * 16384
 cases['longest-atom'] = long(65532)
 cases['longest-concat'] = concat(0, *[NIL] * 16380) + checkpoint()
 cases['longest-pairs'] = (checkpoint() + b''.join(atom(bytes([i % 256, i % 251, i % 13])) + pair(NIL, NIL) + maybe(0, NIL) for i in range(2400)))[:65536]
 
 
+# ---- one byte more: too long
+cases['too-long'] = checkpoint() * 16384 + b'\0'
+
+
 def main():
     data = os.path.join(HERE, 'data')
-    with open(os.path.join(data, 'inputs'), 'wb') as inputs, open(os.path.join(data, 'texts'), 'w') as texts:
+    for old in os.listdir(data):
+        os.remove(os.path.join(data, old))
+    with open(os.path.join(HERE, 'args'), 'w') as args, open(os.path.join(HERE, 'stdout'), 'w') as texts:
         for name, content in cases.items():
-            assert len(content) <= requests.LONGEST and len(name) <= 32, name
-            text = requests.text(content)
-            inputs.write(name.ljust(32).encode() + struct.pack('<II', len(content), len(text)) + content)
-            texts.write(text)
-    with open(os.path.join(HERE, 'stdout'), 'w') as lines:
-        lines.write(''.join(f'{name} ok\n' for name in cases))
+            file = name + '.trace'
+            with open(os.path.join(data, file), 'wb') as trace:
+                trace.write(content)
+            args.write(file + '\n')
+            texts.write('trace %s\n%s' % (file, requests.text(content)))
 
 
 if __name__ == '__main__':
