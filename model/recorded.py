@@ -17,17 +17,15 @@ WORD = 2**32                        # the steps of slots are reckoned modulo thi
 # The calls, in the order of FORMAT.md's table, each with its arguments and with how many values its answer has. An argument is n a number,
 # i a signed number, b bytes, k a transparent checkpoint, p a plain one, l nodes, s the length of a scratch.
 CALLS = {
-    "new_limited": ("n", 0), "object_type": ("n", 1), "index": ("n", 1), "is_atom": ("n", 1), "is_pair": ("n", 1),
-    "fits_in_small_atom": ("b", 2), "len_for_value": ("n", 1),
-    "atom_count": ("", 1), "allocated_atom_count": ("", 1), "pair_count": ("", 1), "allocated_pair_count": ("", 1),
-    "heap_size": ("", 1), "allocated_heap_size": ("", 1), "checkpoint": ("", 6), "transparent_checkpoint": ("", 3),
-    "restore_checkpoint": ("p", 0), "restore_transparent_checkpoint": ("k", 0),
-    "checkpoint_node_status": ("kn", 3), "maybe_restore_with_node": ("kn", 1),
-    "new_atom": ("b", 0), "new_small_number": ("n", 0), "new_u64": ("n", 0), "new_i64": ("i", 0), "new_pair": ("nn", 0),
-    "add_ghost_pair": ("n", 0), "remove_ghost_pair": ("n", 0), "add_ghost_atom": ("n", 0),
-    "new_substr": ("nnn", 0), "new_concat": ("nl", 0),
-    "atom_eq": ("nn", 1), "atom": ("ns", 4), "atom_len": ("n", 1), "small_number": ("n", 2),
-    "node": ("n", 3), "sexp": ("n", 3), "next": ("n", 3), "well_formed": ("", 1), "load": ("n", 1), "save": ("n", 1),
+    "object_type": ("n", 1), "index": ("n", 1), "is_atom": ("n", 1), "is_pair": ("n", 1), "fits_in_small_atom": ("b", 2),
+    "len_for_value": ("n", 1), "new_limited": ("n", 0), "atom_count": ("", 1), "allocated_atom_count": ("", 1),
+    "pair_count": ("", 1), "allocated_pair_count": ("", 1), "heap_size": ("", 1), "allocated_heap_size": ("", 1),
+    "checkpoint": ("", 6), "transparent_checkpoint": ("", 3), "new_small_number": ("n", 0), "add_ghost_pair": ("n", 0),
+    "remove_ghost_pair": ("n", 0), "add_ghost_atom": ("n", 0), "restore_checkpoint": ("p", 0),
+    "restore_transparent_checkpoint": ("k", 0), "save": ("n", 1), "checkpoint_node_status": ("kn", 3), "atom_eq": ("nn", 1),
+    "atom": ("ns", 4), "atom_len": ("n", 1), "small_number": ("n", 2), "node": ("n", 3), "sexp": ("n", 3), "next": ("n", 3),
+    "well_formed": ("", 1), "maybe_restore_with_node": ("kn", 1), "new_pair": ("nn", 0), "load": ("n", 1), "new_atom": ("b", 0),
+    "new_u64": ("n", 0), "new_i64": ("i", 0), "new_substr": ("nnn", 0), "new_concat": ("nl", 0),
 }
 
 # The document's words for a first value, in the order of the C header's numbers.

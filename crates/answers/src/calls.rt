@@ -15,6 +15,7 @@ use compare::lists::Bytes;
 use compare::lists::File;
 use compare::lists::Slots;
 use compare::lists::low;
+use script::call;
 use script::desk;
 use script::desk::Desk;
 use words::CheckpointWords;
@@ -24,28 +25,32 @@ ghost use Prim.Native.Nat.{_≤_, _^_};
 
 // The checkpoints that a line begins with, from FIRST on.
 fn counts(desk: &Desk) -> CountsWords {
-    [desk[32] as usize, desk[33] as usize, desk[34] as usize]
+    [
+        desk[desk::FIRST] as usize,
+        desk[desk::SECOND] as usize,
+        desk[desk::THIRD] as usize,
+    ]
 }
 
 fn checkpoint(desk: &Desk) -> CheckpointWords {
     [
-        desk[32] as usize,
-        desk[33] as usize,
-        desk[34] as usize,
-        desk[35] as usize,
-        desk[36] as usize,
-        desk[37] as usize,
+        desk[desk::FIRST] as usize,
+        desk[desk::SECOND] as usize,
+        desk[desk::THIRD] as usize,
+        desk[desk::FOURTH] as usize,
+        desk[desk::FIFTH] as usize,
+        desk[desk::SIXTH] as usize,
     ]
 }
 
 // The calls that are lent nothing but bytes of their own.
-fn of_bits(call: u64, n: u32, t: &[u8]) -> Seen {
-    match call {
-        1 => seen::of_number(c_node::clvm_object_type(n)),
-        2 => seen::of_number(c_node::clvm_index(n)),
-        3 => seen::of_number(c_node::clvm_is_atom(n)),
-        4 => seen::of_number(c_node::clvm_is_pair(n)),
-        5 => seen::of_option(c_node::clvm_fits_in_small_atom(t)),
+fn of_bits(kind: u64, n: u32, t: &[u8]) -> Seen {
+    match kind {
+        call::OBJECT_TYPE => seen::of_number(c_node::clvm_object_type(n)),
+        call::INDEX => seen::of_number(c_node::clvm_index(n)),
+        call::IS_ATOM => seen::of_number(c_node::clvm_is_atom(n)),
+        call::IS_PAIR => seen::of_number(c_node::clvm_is_pair(n)),
+        call::FITS_IN_SMALL_ATOM => seen::of_option(c_node::clvm_fits_in_small_atom(t)),
         _ => seen::of_plain(c_node::clvm_len_for_value(n) as u64),
     }
 }
@@ -64,28 +69,31 @@ fn of_transparent(a: &RecordWords) -> Seen {
 }
 
 // The calls that are lent the record alone.
-fn of_record(call: u64, desk: &Desk, a: &mut RecordWords) -> Seen {
+fn of_record(kind: u64, desk: &Desk, a: &mut RecordWords) -> Seen {
     let amount = desk[desk::FIRST] as usize;
-    match call {
-        0 => seen::of_answer(c_state::clvm_new_limited(a, amount)),
-        7 => seen::of_number(c_state::clvm_atom_count(a)),
-        8 => seen::of_number(c_state::clvm_allocated_atom_count(a)),
-        9 => seen::of_number(c_state::clvm_pair_count(a)),
-        10 => seen::of_number(c_state::clvm_allocated_pair_count(a)),
-        11 => seen::of_number(c_state::clvm_heap_size(a)),
-        12 => seen::of_number(c_state::clvm_allocated_heap_size(a)),
-        13 => of_checkpoint(a),
-        14 => of_transparent(a),
-        20 => seen::of_answer(c_creates::clvm_new_small_number(a, low(desk[desk::FIRST]))),
-        24 => seen::of_answer(c_creates::clvm_add_ghost_pair(a, amount)),
-        25 => seen::of_answer(c_creates::clvm_remove_ghost_pair(a, amount)),
+    match kind {
+        call::NEW_LIMITED => seen::of_answer(c_state::clvm_new_limited(a, amount)),
+        call::ATOM_COUNT => seen::of_number(c_state::clvm_atom_count(a)),
+        call::ALLOCATED_ATOM_COUNT => seen::of_number(c_state::clvm_allocated_atom_count(a)),
+        call::PAIR_COUNT => seen::of_number(c_state::clvm_pair_count(a)),
+        call::ALLOCATED_PAIR_COUNT => seen::of_number(c_state::clvm_allocated_pair_count(a)),
+        call::HEAP_SIZE => seen::of_number(c_state::clvm_heap_size(a)),
+        call::ALLOCATED_HEAP_SIZE => seen::of_number(c_state::clvm_allocated_heap_size(a)),
+        call::CHECKPOINT => of_checkpoint(a),
+        call::TRANSPARENT_CHECKPOINT => of_transparent(a),
+        call::NEW_SMALL_NUMBER => seen::of_answer(c_creates::clvm_new_small_number(
+            a,
+            low(desk[desk::FIRST]),
+        )),
+        call::ADD_GHOST_PAIR => seen::of_answer(c_creates::clvm_add_ghost_pair(a, amount)),
+        call::REMOVE_GHOST_PAIR => seen::of_answer(c_creates::clvm_remove_ghost_pair(a, amount)),
         _ => seen::of_answer(c_creates::clvm_add_ghost_atom(a, amount)),
     }
 }
 
 // Going back, but for the restore with a node.
 fn of_restores(
-    call: u64,
+    kind: u64,
     desk: &Desk,
     a: &mut RecordWords,
     starts: &[u32],
@@ -95,8 +103,8 @@ fn of_restores(
 ) -> Seen {
     let used = counts(desk);
     let plain = checkpoint(desk);
-    match call {
-        15 => seen::of_answer(c_restores::clvm_restore_checkpoint(
+    match kind {
+        call::RESTORE_CHECKPOINT => seen::of_answer(c_restores::clvm_restore_checkpoint(
             a,
             starts,
             ends,
@@ -153,7 +161,7 @@ fn nodes(desk: &Desk) -> [u32; 16] {
 
 // What may be stored in bytes: an atom, an integer, a part of an atom, atoms joined.
 fn of_atoms(
-    call: u64,
+    kind: u64,
     desk: &Desk,
     a: &mut RecordWords,
     bytes: &mut [u8],
@@ -169,17 +177,17 @@ fn of_atoms(
     let to = low(desk[desk::THIRD]);
     let integer = signed(x, y);
     let size = x as usize;
-    match call {
-        19 => c_creates::clvm_new_atom(a, bytes, starts, ends, t),
-        21 => c_creates::clvm_new_u64(a, bytes, starts, ends, x),
-        22 => c_creates::clvm_new_i64(a, bytes, starts, ends, integer),
-        27 => c_creates::clvm_new_substr(a, bytes, starts, ends, n, from, to),
+    match kind {
+        call::NEW_ATOM => c_creates::clvm_new_atom(a, bytes, starts, ends, t),
+        call::NEW_U64 => c_creates::clvm_new_u64(a, bytes, starts, ends, x),
+        call::NEW_I64 => c_creates::clvm_new_i64(a, bytes, starts, ends, integer),
+        call::NEW_SUBSTR => c_creates::clvm_new_substr(a, bytes, starts, ends, n, from, to),
         _ => c_concat::clvm_new_concat(a, bytes, starts, ends, size, nodes),
     }
 }
 
 fn lent_atoms(
-    call: u64,
+    kind: u64,
     desk: &Desk,
     a: &mut RecordWords,
     bytes: &mut [u8],
@@ -193,7 +201,7 @@ fn lent_atoms(
     let v = lists::handed(t, lists::HANDED, desk[desk::FIRST]);
     let all = nodes(desk);
     let given = desk::less(desk[desk::GIVEN] as usize) as u64;
-    seen::of_answer(of_atoms(call, desk, a, b, s, e, v, lists::part(&all, given)))
+    seen::of_answer(of_atoms(kind, desk, a, b, s, e, v, lists::part(&all, given)))
 }
 
 fn lent_pair(desk: &Desk, a: &mut RecordWords, firsts: &mut [u32], rests: &mut [u32]) -> Seen {
@@ -299,7 +307,7 @@ fn of_status(desk: &Desk, a: &RecordWords, starts: &[u32], ends: &[u32]) -> Seen
 
 // The calls that only read.
 fn of_reads(
-    call: u64,
+    kind: u64,
     desk: &Desk,
     a: &RecordWords,
     bytes: &[u8],
@@ -309,9 +317,9 @@ fn of_reads(
     rests: &[u32],
 ) -> Seen {
     let n = low(desk[desk::FIRST]);
-    match call {
-        17 => of_status(desk, a, starts, ends),
-        29 => seen::of_number(c_reads::clvm_atom_eq(
+    match kind {
+        call::CHECKPOINT_NODE_STATUS => of_status(desk, a, starts, ends),
+        call::ATOM_EQ => seen::of_number(c_reads::clvm_atom_eq(
             a,
             bytes,
             starts,
@@ -319,12 +327,18 @@ fn of_reads(
             n,
             low(desk[desk::SECOND]),
         )),
-        30 => of_atom(desk, a, bytes, starts, ends),
-        31 => seen::of_number(c_reads::clvm_atom_len(a, starts, ends, n)),
-        32 => seen::of_option(c_reads::clvm_small_number(a, bytes, starts, ends, n)),
-        33 => seen::of_visited(c_reads::clvm_node(a, starts, ends, firsts, rests, n)),
-        34 => seen::of_children(c_reads::clvm_sexp(a, firsts, rests, n)),
-        35 => seen::of_children(c_reads::clvm_next(a, firsts, rests, n)),
+        call::ATOM => of_atom(desk, a, bytes, starts, ends),
+        call::ATOM_LEN => seen::of_number(c_reads::clvm_atom_len(a, starts, ends, n)),
+        call::SMALL_NUMBER => seen::of_option(c_reads::clvm_small_number(
+            a,
+            bytes,
+            starts,
+            ends,
+            n,
+        )),
+        call::NODE => seen::of_visited(c_reads::clvm_node(a, starts, ends, firsts, rests, n)),
+        call::SEXP => seen::of_children(c_reads::clvm_sexp(a, firsts, rests, n)),
+        call::NEXT => seen::of_children(c_reads::clvm_next(a, firsts, rests, n)),
         _ => seen::of_plain(
             c_state::clvm_well_formed(a, bytes, starts, ends, firsts, rests) as u64,
         ),
@@ -333,7 +347,7 @@ fn of_reads(
 
 // The calls that write no list but the file.
 fn looks(
-    call: u64,
+    kind: u64,
     desk: &Desk,
     a: &mut RecordWords,
     bytes: &[u8],
@@ -348,30 +362,30 @@ fn looks(
     let e = lists::part(ends, desk[desk::LENT_ENDS]);
     let f = lists::part(firsts, desk[desk::LENT_FIRSTS]);
     let r = lists::part(rests, desk[desk::LENT_RESTS]);
-    if call < 17 {
-        return of_restores(call, desk, a, s, e, f, r);
+    if kind <= call::RESTORE_TRANSPARENT_CHECKPOINT {
+        return of_restores(kind, desk, a, s, e, f, r);
     }
-    if call == 38 {
+    if kind == call::SAVE {
         return of_save(desk, a, b, s, e, f, r, file);
     }
-    of_reads(call, desk, a, b, s, e, f, r)
+    of_reads(kind, desk, a, b, s, e, f, r)
 }
 
 // The calls that are lent no list.
-fn light(call: u64, desk: &Desk, a: &mut RecordWords, file: &[u8]) -> Seen {
-    match call {
-        1..=6 => of_bits(
-            call,
+fn light(kind: u64, desk: &Desk, a: &mut RecordWords, file: &[u8]) -> Seen {
+    match kind {
+        0..=call::LEN_FOR_VALUE => of_bits(
+            kind,
             low(desk[desk::FIRST]),
             lists::handed(file, lists::HANDED, desk[desk::FIRST]),
         ),
-        _ => of_record(call, desk, a),
+        _ => of_record(kind, desk, a),
     }
 }
 
 // The calls that write lists but the file.
 fn writes(
-    call: u64,
+    kind: u64,
     desk: &Desk,
     a: &mut RecordWords,
     bytes: &mut Bytes,
@@ -381,22 +395,11 @@ fn writes(
     rests: &mut Slots,
     file: &File,
 ) -> Seen {
-    match call {
-        18 => lent_maybe(desk, a, bytes, starts, ends, firsts, rests),
-        23 => lent_pair(desk, a, firsts, rests),
-        37 => lent_load(desk, a, bytes, starts, ends, firsts, rests, file),
-        _ => lent_atoms(call, desk, a, bytes, starts, ends, file),
-    }
-}
-
-// Whether a call is lent no list, lists to read and the file, or lists to write; 3 where the line is no call. A number of its own: a choice
-// by several ranges would be followed through once for each of them, with all lists.
-fn lent_to(call: u64) -> u64 {
-    match call {
-        0..=14 | 20 | 24..=26 => 0,
-        15..=17 | 29..=36 | 38 => 1,
-        18 | 19 | 21..=23 | 27 | 28 | 37 => 2,
-        _ => 3,
+    match kind {
+        call::MAYBE_RESTORE_WITH_NODE => lent_maybe(desk, a, bytes, starts, ends, firsts, rests),
+        call::NEW_PAIR => lent_pair(desk, a, firsts, rests),
+        call::LOAD => lent_load(desk, a, bytes, starts, ends, firsts, rests, file),
+        _ => lent_atoms(kind, desk, a, bytes, starts, ends, file),
     }
 }
 
@@ -411,12 +414,15 @@ pub fn made(
     rests: &mut Slots,
     file: &mut File,
 ) -> Seen {
-    let call = desk[desk::KIND];
-    let lists = lent_to(call);
-    match lists {
-        0 => light(call, desk, a, file),
-        1 => looks(call, desk, a, bytes, starts, ends, firsts, rests, file),
-        2 => writes(call, desk, a, bytes, starts, ends, firsts, rests, file),
+    let kind = desk[desk::KIND];
+    match kind {
+        0..=call::ADD_GHOST_ATOM => light(kind, desk, a, file),
+        call::RESTORE_CHECKPOINT..=call::WELL_FORMED => {
+            looks(kind, desk, a, bytes, starts, ends, firsts, rests, file)
+        }
+        call::MAYBE_RESTORE_WITH_NODE..=call::NEW_CONCAT => {
+            writes(kind, desk, a, bytes, starts, ends, firsts, rests, file)
+        }
         _ => seen::of_plain(0),
     }
 }

@@ -70,7 +70,7 @@ fn main() {
     let mut file = no_file();
     let mut fd: i32 = 0;
     let mut turns: u64 = 1000000000;
-    desk[desk::FILE] = table::FILES;
+    desk[desk::FILE] = table::DOCUMENT;
     while 0 < turns {
         fd = turn(
             fd,

@@ -123,34 +123,38 @@ pub fn of_loaded(r: CLoaded) -> Seen {
     shown(r.code, r.node, r.at as u64, 0, 0, 0)
 }
 
-// Lays an answer on the desk, from CAME on, and the record from CAME_RECORD on.
-pub fn keep(desk: &mut Desk, s: Seen, row: RecordWords) {
-    desk[80] = s.code as u64;
-    desk[81] = s.node as u64;
-    desk[82] = s.a;
-    desk[83] = s.b;
-    desk[84] = s.c;
-    desk[85] = s.d;
-    desk[86] = s.e;
-    desk[87] = s.f;
-    desk[88] = row[0] as u64;
-    desk[89] = row[1] as u64;
-    desk[90] = row[2] as u64;
-    desk[91] = row[3] as u64;
-    desk[92] = row[4] as u64;
-    desk[93] = row[5] as u64;
-    desk[94] = row[6] as u64;
+// Lays an answer on the desk, and the record that the call left.
+pub fn keep(desk: &mut Desk, s: Seen, record: RecordWords) {
+    desk::put(desk, desk::CAME, 0, s.code as u64);
+    desk::put(desk, desk::CAME, 1, s.node as u64);
+    desk::put(desk, desk::CAME, 2, s.a);
+    desk::put(desk, desk::CAME, 3, s.b);
+    desk::put(desk, desk::CAME, 4, s.c);
+    desk::put(desk, desk::CAME, 5, s.d);
+    desk::put(desk, desk::CAME, 6, s.e);
+    desk::put(desk, desk::CAME, 7, s.f);
+    keep_record(desk, record);
 }
 
-// The record's words, from RECORD on: written out, since a sum in each index would have to be proved to fit.
+fn keep_record(desk: &mut Desk, record: RecordWords) {
+    desk::put(desk, desk::CAME_RECORD, 0, record[0] as u64);
+    desk::put(desk, desk::CAME_RECORD, 1, record[1] as u64);
+    desk::put(desk, desk::CAME_RECORD, 2, record[2] as u64);
+    desk::put(desk, desk::CAME_RECORD, 3, record[3] as u64);
+    desk::put(desk, desk::CAME_RECORD, 4, record[4] as u64);
+    desk::put(desk, desk::CAME_RECORD, 5, record[5] as u64);
+    desk::put(desk, desk::CAME_RECORD, 6, record[6] as u64);
+}
+
+// The record's words.
 pub fn record(desk: &Desk) -> RecordWords {
     [
-        desk[96] as usize,
-        desk[97] as usize,
-        desk[98] as usize,
-        desk[99] as usize,
-        desk[100] as usize,
-        desk[101] as usize,
-        desk[102] as usize,
+        desk::at(desk, desk::RECORD, 0) as usize,
+        desk::at(desk, desk::RECORD, 1) as usize,
+        desk::at(desk, desk::RECORD, 2) as usize,
+        desk::at(desk, desk::RECORD, 3) as usize,
+        desk::at(desk, desk::RECORD, 4) as usize,
+        desk::at(desk, desk::RECORD, 5) as usize,
+        desk::at(desk, desk::RECORD, 6) as usize,
     ]
 }

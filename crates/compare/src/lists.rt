@@ -1,4 +1,5 @@
 // The lists that the calls are lent. Behind the part that can be lent each has as much again, which is what it is expected to hold.
+use script::call;
 use script::desk;
 use script::desk::Desk;
 use script::desk::Window;
@@ -65,13 +66,13 @@ struct Laid {
     by: u64,
 }
 
-// Whether a line lays into a list: 0 is bytes, 1 starts, 2 ends, 3 firsts, 4 rests, 5 the file, 6 what a call is handed.
+// Whether a line lays into a list.
 fn lays_into(kind: u64, list: usize) -> bool {
     match kind {
-        42 | 46 => list == 0,
-        43 | 47 => list == 5,
-        44 | 48 => list == 1 || list == 2,
-        45 | 49 => list == 3 || list == 4,
+        table::PUT_BYTES | table::NOW_BYTES => list == desk::BYTES,
+        table::PUT_FILE | table::NOW_FILE => list == desk::FILES,
+        table::PUT_ATOMS | table::NOW_ATOMS => list == desk::STARTS || list == desk::ENDS,
+        table::PUT_PAIRS | table::NOW_PAIRS => list == desk::FIRSTS || list == desk::RESTS,
         _ => false,
     }
 }
@@ -90,6 +91,7 @@ fn of_line(desk: &Desk, list: usize) -> Laid {
         return l;
     }
     if lays_into(kind, list) {
+        // starts and firsts are the lists 1 and 3, ends and rests 2 and 4
         let second = 2 - 2 * (list % 2);
         l.at = desk[desk::FIRST] as usize;
         l.n = desk[desk::SECOND] as usize;
@@ -142,11 +144,10 @@ fn lay_bytes(s: &mut [u8], base: usize, l: Laid, t: &[u8]) {
 // Notes a difference, unless one is noted.
 fn fault(desk: &mut Desk, list: usize, at: usize, want: u64, came: u64) {
     if desk[desk::FAULT] == 0 {
-        desk[desk::FAULT] = table::LISTS;
         desk[desk::FAULT_AT] = at as u64;
         desk[desk::FAULT_WANT] = want;
         desk[desk::FAULT_CAME] = came;
-        desk::put(desk, desk::FAULT, 0, desk::sum(55, list) as u64);
+        desk[desk::FAULT] = desk::sum(table::LISTS, list) as u64;
     }
 }
 
@@ -223,7 +224,7 @@ fn bytes(window: &Window, desk: &mut Desk, list: usize, s: &mut [u8]) {
 fn hands(desk: &Desk) -> usize {
     let kind = desk[desk::KIND];
     match kind {
-        5 | 19 => desk[desk::FIRST] as usize,
+        call::FITS_IN_SMALL_ATOM | call::NEW_ATOM => desk[desk::FIRST] as usize,
         _ => 0,
     }
 }
@@ -251,12 +252,12 @@ pub fn tend(
     rests: &mut Slots,
     file: &mut File,
 ) {
-    bytes(window, desk, 0, b);
-    slots(desk, 1, starts);
-    slots(desk, 2, ends);
-    slots(desk, 3, firsts);
-    slots(desk, 4, rests);
-    bytes(window, desk, 5, file);
+    bytes(window, desk, desk::BYTES, b);
+    slots(desk, desk::STARTS, starts);
+    slots(desk, desk::ENDS, ends);
+    slots(desk, desk::FIRSTS, firsts);
+    slots(desk, desk::RESTS, rests);
+    bytes(window, desk, desk::FILES, file);
     hand(window, desk, file);
     if desk[desk::DUE] == 1 {
         desk[desk::PENDING] = 0;

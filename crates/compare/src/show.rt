@@ -1,11 +1,14 @@
 // What the program prints.
-use bytes::scan;
 use libc::STDOUT_FILENO;
+use script::call;
 use script::desk;
 use script::desk::Desk;
 use script::desk::Window;
 use script::lines;
 use script::table;
+
+// Where the name begins in the line of a case.
+const NAME: usize = 5;
 
 // Prints a text. `$` and a capital letter stand for the number in that place of the desk, A being the first; `@` and a letter for the name in
 // the row of that number.
@@ -66,30 +69,12 @@ pub fn stop(desk: &mut Desk) {
     desk[desk::KIND] = table::NOTHING;
 }
 
-// Where the mark stands between a call and its answer.
-fn mark(window: &Window, to: usize) -> usize {
-    let s: &[u8] = window;
-    if to <= s.len() {
-        return scan::find(s, 0, to, b'=');
-    }
-    0
-}
-
-// The line that differs with its case and its sentence, and the call; what stands behind the call is left to be printed.
-fn differs(fd: i32, window: &mut Window, desk: &Desk) -> lines::Fetched {
+// The line that differs: its case, the call and what is expected of it.
+fn differs(fd: i32, window: &mut Window, desk: &Desk) {
     say(desk, b"@C line $N, case ");
-    line_at(fd, window, desk[desk::CASE_AT], 5);
+    line_at(fd, window, desk[desk::CASE_AT], NAME);
     say(desk, b": differs\n");
-    let sentence = desk[desk::SENTENCE_AT];
-    if 0 < sentence {
-        line_at(fd, window, sentence - 1, 0);
-        say(desk, b"\n");
-    }
-    let line = lines::fetch(fd, window, desk[desk::CALL_AT]);
-    let k = mark(window, line.to);
-    say(desk, b"call: ");
-    part(window, 0, desk::less(k));
-    line
+    line_at(fd, window, desk[desk::CALL_AT], 0);
 }
 
 // Shows the difference of a list that the call before has left, or else a line that is not understood, or that there is no such file.
@@ -124,10 +109,7 @@ fn numbers(desk: &mut Desk, from: usize, n: usize) {
 
 // Shows an answer that differs: what came has as many values as the call has, and the record where it changed.
 fn wrong(fd: i32, window: &mut Window, desk: &mut Desk) {
-    let line = differs(fd, window, desk);
-    let from = desk::sum(mark(window, line.to), 2);
-    say(desk, b"\nexpected: ");
-    part(window, from, line.to);
+    differs(fd, window, desk);
     say(desk, b"\ncame:");
     let shape = table::asks(desk[desk::KIND]);
     numbers(desk, desk::CAME, desk::sum(shape.values, 2));
@@ -151,7 +133,7 @@ fn answered(fd: i32, window: &mut Window, desk: &mut Desk) {
     desk[desk::PENDING] = 1;
     desk::count(desk, desk::CALLS, 0);
     let codes = codes_of(desk[desk::KIND]);
-    let code = desk::within(desk[desk::CAME], 19);
+    let code = desk::within(desk[desk::CAME], desk::CODES - 1);
     desk::count(desk, codes, code);
 }
 
@@ -166,7 +148,6 @@ fn codes_of(call: u64) -> usize {
 // A case begins: nothing is lent, and the record is seven noughts.
 fn case(desk: &mut Desk) {
     desk[desk::CASE_AT] = desk[desk::AT];
-    desk[desk::SENTENCE_AT] = 0;
     desk::count(desk, desk::CASES, 0);
     desk::copy(desk, desk::NOUGHTS, desk::RECORD, 24);
 }
@@ -190,7 +171,7 @@ fn ended(fd: i32, desk: &mut Desk) {
     libc::close(fd);
     desk[desk::OPEN] = 0;
     desk::count(desk, desk::FILE, 0);
-    if desk[desk::FILE] == table::LISTS {
+    if desk[desk::FILE] == table::LISTS as u64 {
         totals(desk);
         stop(desk);
     }
@@ -200,12 +181,11 @@ fn ended(fd: i32, desk: &mut Desk) {
 pub fn settle(fd: i32, window: &mut Window, desk: &mut Desk) {
     let kind = desk[desk::KIND];
     match kind {
-        0..=38 => answered(fd, window, desk),
-        39 => case(desk),
-        40 => lend(desk),
-        41 => desk::copy(desk, desk::FIRST, desk::RECORD, 7),
-        50 => desk[desk::SENTENCE_AT] = desk::sum(desk[desk::AT] as usize, 1) as u64,
-        98 => ended(fd, desk),
+        0..=call::NEW_CONCAT => answered(fd, window, desk),
+        table::CASE => case(desk),
+        table::LENT => lend(desk),
+        table::RECORD => desk::copy(desk, desk::FIRST, desk::RECORD, 7),
+        table::END => ended(fd, desk),
         _ => {}
     }
 }

@@ -1,4 +1,5 @@
 // What a line asks: its kind and its numbers, laid on the desk. A line that has a word too many or too few is not understood.
+use super::call;
 use super::desk;
 use super::desk::Desk;
 use super::desk::Window;
@@ -103,11 +104,11 @@ fn ends(t: &[u8], desk: &mut Desk, shape: Shape, at: usize) -> bool {
     if !parse::is_mark(t, read.at, b'|') {
         return false;
     }
-    let row = parse::numbers(t, desk::sum(read.at, 2), desk, desk::WANT_RECORD, 7);
-    if row.count < 7 {
+    let record = parse::numbers(t, desk::sum(read.at, 2), desk, desk::WANT_RECORD, 7);
+    if record.count < 7 {
         return false;
     }
-    row.at == t.len()
+    record.at == t.len()
 }
 
 // Whether the arguments from one on up to another are at most so large.
@@ -129,10 +130,10 @@ fn fits(desk: &Desk, kind: u64, shape: Shape) -> bool {
         return false;
     }
     match kind {
-        5 | 19 => desk[desk::FIRST] <= BYTES,
-        22 => is_signed(desk[desk::FIRST], desk[desk::SECOND]),
-        30 => desk[desk::SECOND] <= SCRATCH,
-        37 => desk[desk::FIRST] <= desk[desk::LENT_FILE],
+        call::FITS_IN_SMALL_ATOM | call::NEW_ATOM => desk[desk::FIRST] <= BYTES,
+        call::NEW_I64 => is_signed(desk[desk::FIRST], desk[desk::SECOND]),
+        call::ATOM => desk[desk::SECOND] <= SCRATCH,
+        call::LOAD => desk[desk::FIRST] <= desk[desk::LENT_FILE],
         table::LENT => is_lent(desk),
         table::PUT_BYTES..=table::NOW_PAIRS => is_within(desk, kind),
         _ => true,
@@ -167,10 +168,10 @@ fn is_within(desk: &Desk, kind: u64) -> bool {
         }
     }
     match kind {
-        42 | 46 => both(desk, 0, 0),
-        43 | 47 => both(desk, 5, 5),
-        44 | 48 => both(desk, 1, 2),
-        _ => both(desk, 3, 4),
+        table::PUT_BYTES | table::NOW_BYTES => both(desk, desk::BYTES, desk::BYTES),
+        table::PUT_FILE | table::NOW_FILE => both(desk, desk::FILES, desk::FILES),
+        table::PUT_ATOMS | table::NOW_ATOMS => both(desk, desk::STARTS, desk::ENDS),
+        _ => both(desk, desk::FIRSTS, desk::RESTS),
     }
 }
 

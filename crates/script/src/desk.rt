@@ -31,11 +31,8 @@ pub const NEXT: usize = 8;
 
 pub const LINE: usize = 9;
 
-// Where in the file the lines begin that a difference is shown with, and the number of the call's. A sentence's place is 0 where the case
-// has none, else one more.
+// Where in the file the lines begin that a difference is shown with, and the number of the call's.
 pub const CASE_AT: usize = 10;
-
-pub const SENTENCE_AT: usize = 11;
 
 pub const CALL_AT: usize = 12;
 
@@ -75,6 +72,10 @@ pub const THIRD: usize = 34;
 
 pub const FOURTH: usize = 35;
 
+pub const FIFTH: usize = 36;
+
+pub const SIXTH: usize = 37;
+
 // What must come: code, node and six values, and behind them the record; and in the same order what came.
 pub const WANT: usize = 64;
 
@@ -89,7 +90,20 @@ pub const ANSWER: usize = 15;
 // The record before the call.
 pub const RECORD: usize = 96;
 
-// How much of each list is lent, and the most that was lent since the case began. The lists are bytes, starts, ends, firsts, rests, file.
+// The lists, by their places below.
+pub const BYTES: usize = 0;
+
+pub const STARTS: usize = 1;
+
+pub const ENDS: usize = 2;
+
+pub const FIRSTS: usize = 3;
+
+pub const RESTS: usize = 4;
+
+pub const FILES: usize = 5;
+
+// How much of each list is lent, and the most that was lent since the case began.
 pub const LENT: usize = 104;
 
 pub const LENT_STARTS: usize = 105;

@@ -13,9 +13,9 @@ const FAR: u64 = 4294967296;
 
 fn open(file: u64) -> i32 {
     match file {
-        51 => os::open_read(b"document.txt"),
-        52 => os::open_read(b"runs.txt"),
-        53 => os::open_read(b"files.txt"),
+        table::DOCUMENT => os::open_read(b"document.txt"),
+        table::RUNS => os::open_read(b"runs.txt"),
+        table::PROGRAMS => os::open_read(b"files.txt"),
         _ => os::open_read(b"rust.txt"),
     }
 }

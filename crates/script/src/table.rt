@@ -1,24 +1,40 @@
 // What each line begins with, and what stands behind it.
 
+// The rows of the calls come first (call.rt has their numbers).
 pub const CALLS: u64 = 39;
 
 pub const CASE: u64 = 39;
 
 pub const LENT: u64 = 40;
 
+pub const RECORD: u64 = 41;
+
 pub const PUT_BYTES: u64 = 42;
 
-// `now bytes` .. `now pairs` stand as far behind `put bytes` .. `put pairs`.
+pub const PUT_FILE: u64 = 43;
+
+pub const PUT_ATOMS: u64 = 44;
+
+pub const PUT_PAIRS: u64 = 45;
+
 pub const NOW_BYTES: u64 = 46;
+
+pub const NOW_FILE: u64 = 47;
+
+pub const NOW_ATOMS: u64 = 48;
 
 pub const NOW_PAIRS: u64 = 49;
 
 // The rows that are lines; behind them stand the names of the files and of the lists.
 const LINES: u64 = 51;
 
-pub const FILES: u64 = 51;
+pub const DOCUMENT: u64 = 51;
 
-pub const LISTS: u64 = 55;
+pub const RUNS: u64 = 52;
+
+pub const PROGRAMS: u64 = 53;
+
+pub const LISTS: usize = 55;
 
 const ROWS: u64 = 61;
 
@@ -40,13 +56,13 @@ const WIDTH: usize = 36;
 // A row: a name of at most 30 characters; how many numbers of 64 bits stand behind it, or t where any text does; how many of 32 bits behind
 // those, * being at most 16; b where a pattern follows; how many values the answer has, or - where the line has none.
 const TABLE: [u8; 2196] = *b"\
-    new_limited                     10-0\
     object_type                     01-1\
     index                           01-1\
     is_atom                         01-1\
     is_pair                         01-1\
     fits_in_small_atom              10b2\
     len_for_value                   01-1\
+    new_limited                     10-0\
     atom_count                      00-1\
     allocated_atom_count            00-1\
     pair_count                      00-1\
@@ -55,20 +71,14 @@ const TABLE: [u8; 2196] = *b"\
     allocated_heap_size             00-1\
     checkpoint                      00-6\
     transparent_checkpoint          00-3\
-    restore_checkpoint              60-0\
-    restore_transparent_checkpoint  30-0\
-    checkpoint_node_status          31-3\
-    maybe_restore_with_node         31-1\
-    new_atom                        10b0\
     new_small_number                01-0\
-    new_u64                         10-0\
-    new_i64                         20-0\
-    new_pair                        02-0\
     add_ghost_pair                  10-0\
     remove_ghost_pair               10-0\
     add_ghost_atom                  10-0\
-    new_substr                      03-0\
-    new_concat                      1*-0\
+    restore_checkpoint              60-0\
+    restore_transparent_checkpoint  30-0\
+    save                            01-1\
+    checkpoint_node_status          31-3\
     atom_eq                         02-1\
     atom                            02-4\
     atom_len                        01-1\
@@ -77,8 +87,14 @@ const TABLE: [u8; 2196] = *b"\
     sexp                            01-3\
     next                            01-3\
     well_formed                     00-1\
+    maybe_restore_with_node         31-1\
+    new_pair                        02-0\
     load                            10-1\
-    save                            01-1\
+    new_atom                        10b0\
+    new_u64                         10-0\
+    new_i64                         20-0\
+    new_substr                      03-0\
+    new_concat                      1*-0\
     case                            t---\
     lent                            60--\
     record                          70--\
