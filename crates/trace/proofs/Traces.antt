@@ -7,7 +7,7 @@ use mathlib.Core.List.{List, [], _∷_, _++_, append-assoc, append-nil}
 use native.Mathlib.Omega.{arith}
 use lib.Dec.{eqb}
 use lib.ListN.{length, take, drop, length-drop}
-use lib.Seq.{drop-drop, take-all}
+use lib.Seq.{drop-drop}
 use borrow.Author.Tests.{eqb-false, eq-eqb, ne-eqb}
 use Rattle.rules.specs.Small.{Octets}
 use Rattle.rules.specs.State.{Lists}
@@ -83,10 +83,6 @@ advanced m l i old new w r t e h k o n p b =
       room = b;
     })
     p
-
--- the input from an index on, as it is lent
-pub from-on : (l : List ℕ) (at : ℕ) → take (length l - at) (drop at l) ≡ drop at l
-from-on l at = take-all (length l - at) (drop at l) (simp length-drop (omega arith))
 
 -- ---- a stretch of records
 

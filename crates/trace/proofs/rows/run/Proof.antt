@@ -1,6 +1,7 @@
 -- `trace::rows::run` meets its contract: the text so far and what is still to come, record by record. Assumes nothing.
-use Rattle.trace.proofs.Traces.{Along, from-on, along-stops, along-last, along-ends, along-more}
+use Rattle.trace.proofs.Traces.{Along, along-stops, along-last, along-ends, along-more}
 use Rattle.rules.specs.State.{lists, atomSlots, pairSlots}
+use Rattle.reads.proofs.Laws.{part-tail}
 use lib.ListN.{length, length-drop, length-take}
 use borrow.Author.Needs.{needs}
 use native.Mathlib.Omega.{arith}
@@ -151,7 +152,7 @@ returns-2 c =
     let else1 = else1-of advance in
     let loop = loop-of-else1 else1 in
     let start = start-of loop in
-    along-ends _ _ _ _ _ _ _ _ _ _ _ (loop .loop .inv .0) _ _ _ _ (from-on (start .args .input .now) (loop .loop .at)) (advance .advance .ensures) (omega (arith, else1 .if1 .left, loop .loop .inv .6, loop .loop .inv .0 .fits)) _ _ (then2 .if2 .taken) (finish .finish .ensures)
+    along-ends _ _ _ _ _ _ _ _ _ _ _ (loop .loop .inv .0) _ _ _ _ (part-tail (loop .loop .at) (start .args .input .now)) (advance .advance .ensures) (omega (arith, else1 .if1 .left, loop .loop .inv .6, loop .loop .inv .0 .fits)) _ _ (then2 .if2 .taken) (finish .finish .ensures)
 
 add-at : tie.Need-add-at Inv-loop μ-loop
 add-at c =
@@ -160,7 +161,7 @@ add-at c =
     let else1 = else1-of advance in
     let loop = loop-of-else1 else1 in
     let start = start-of loop in
-    let h = along-more _ _ _ _ _ _ _ _ _ _ _ (loop .loop .inv .0) _ _ _ _ (from-on (start .args .input .now) (loop .loop .at)) (advance .advance .ensures) (omega (arith, else1 .if1 .left, loop .loop .inv .6, loop .loop .inv .0 .fits)) (c .if2 .left) in
+    let h = along-more _ _ _ _ _ _ _ _ _ _ _ (loop .loop .inv .0) _ _ _ _ (part-tail (loop .loop .at) (start .args .input .now)) (advance .advance .ensures) (omega (arith, else1 .if1 .left, loop .loop .inv .6, loop .loop .inv .0 .fits)) (c .if2 .left) in
     omega (arith, h .within, loop .loop .inv .7)
 
 abbrev in-loop-of : tie.Else1 Inv-loop μ-loop → tie.In-loop Inv-loop μ-loop
@@ -177,7 +178,7 @@ loop-less c =
     let in-loop = in-loop-of else1 in
     let loop = loop-of-in-loop in-loop in
     let start = start-of loop in
-    let h = along-more _ _ _ _ _ _ _ _ _ _ _ (loop .loop .inv .0) _ _ _ _ (from-on (start .args .input .now) (loop .loop .at)) (advance .advance .ensures) (omega (arith, else1 .if1 .left, loop .loop .inv .6, loop .loop .inv .0 .fits)) (c .if2 .left) in
+    let h = along-more _ _ _ _ _ _ _ _ _ _ _ (loop .loop .inv .0) _ _ _ _ (part-tail (loop .loop .at) (start .args .input .now)) (advance .advance .ensures) (omega (arith, else1 .if1 .left, loop .loop .inv .6, loop .loop .inv .0 .fits)) (c .if2 .left) in
     omega (arith, h .within, in-loop .loop-test .taken, c .if2 .left)
 
 loop-again : tie.Need-loop-again Inv-loop μ-loop
@@ -189,7 +190,7 @@ loop-again c =
     let start = start-of loop in
     let i = loop .loop .inv in
     let k = advance .advance .kept in
-    (along-more _ _ _ _ _ _ _ _ _ _ _ (loop .loop .inv .0) _ _ _ _ (from-on (start .args .input .now) (loop .loop .at)) (advance .advance .ensures) (omega (arith, else1 .if1 .left, loop .loop .inv .6, loop .loop .inv .0 .fits)) (c .if2 .left), k .1 .0 ∙ i .1, k .1 .1 .0 ∙ i .2, k .1 .1 .1 .0 ∙ i .3, k .1 .1 .1 .1 .0 ∙ i .4, k .1 .1 .1 .1 .1 .0 ∙ i .5, k .1 .1 .1 .1 .1 .1 .1 .0 ∙ i .6, i .7)
+    (along-more _ _ _ _ _ _ _ _ _ _ _ (loop .loop .inv .0) _ _ _ _ (part-tail (loop .loop .at) (start .args .input .now)) (advance .advance .ensures) (omega (arith, else1 .if1 .left, loop .loop .inv .6, loop .loop .inv .0 .fits)) (c .if2 .left), k .1 .0 ∙ i .1, k .1 .1 .0 ∙ i .2, k .1 .1 .1 .0 ∙ i .3, k .1 .1 .1 .1 .0 ∙ i .4, k .1 .1 .1 .1 .1 .0 ∙ i .5, k .1 .1 .1 .1 .1 .1 .1 .0 ∙ i .6, i .7)
 
 finish-requires-2 : tie.Need-finish-requires-2 Inv-loop μ-loop
 finish-requires-2 c κs =
