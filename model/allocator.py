@@ -1,6 +1,6 @@
 """The rules of document 01: the record, the lists beside it, and every call, on any record and any slots, unsound ones too.
 
-Each rule is written from the document's text, with Python's own numbers. A call answers with a node (None where it makes none) and a list of
+Each rule follows the document's text, with Python's own numbers; who wrote them had read the library's sources too. A call answers with a node (None where it makes none) and a list of
 values, in the document's words; or it raises a Refusal, and nothing is changed before all its tests are passed. The document says which tests
 a call makes, but not which lists it is lent, and a record is sound beside those: that much, the names after `need_sound`, follows the C header.
 """

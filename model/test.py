@@ -1,5 +1,5 @@
 #!/usr/bin/env python3
-"""Holds the model to every number and example that documents 01 and 02 (W1) write out: `python3 model/test.py`; the last line is `N checks passed`."""
+"""Holds the model to numbers and examples that documents 01 and 02 (W1) write out: `python3 model/test.py`; the last line is `N checks passed`."""
 import os
 import sys
 
