@@ -34,6 +34,8 @@ FREED = [
 ]
 # Definitions whose new name is only that of a field, or of a fact within one proof.
 SAFE = {"bytesFit", "isPair", "sameBytes"}
+# A lemma whose name the library has too.
+KEPT = {"and-true"}
 
 
 def free():
@@ -88,7 +90,7 @@ def main():
     table = {}
     for name in sorted(own, key=lambda n: ("-" in n, n)):
         new = spelled(name, definitions)
-        if new == name:
+        if new == name or name in KEPT:
             continue
         if (new in words and name not in SAFE) or new in table.values():
             print(f"left: {name}, since {new} is taken")

@@ -9,7 +9,7 @@ use words::{CheckpointWords, RecordWords};
 // The small atom 0.
 const NIL: u32 = 134217728;
 
-#[derive(Drop)]
+#[derive(Clone, Copy)]
 pub struct Seen {
     pub code: u32,
     pub node: u32,

@@ -3,7 +3,7 @@
 
 // A number; yes is 1 and no is 0.
 #[repr(C)]
-#[derive(Drop)]
+#[derive(Clone, Copy)]
 pub struct CNumber {
     pub code: u32,
     pub node: u32,
@@ -12,7 +12,7 @@ pub struct CNumber {
 
 // A value that may be missing.
 #[repr(C)]
-#[derive(Drop)]
+#[derive(Clone, Copy)]
 pub struct COption {
     pub code: u32,
     pub node: u32,
@@ -22,7 +22,7 @@ pub struct COption {
 
 // What a node is: kind 0 with its two nodes, 1 with where its bytes begin and end, 2 with the value.
 #[repr(C)]
-#[derive(Drop)]
+#[derive(Clone, Copy)]
 pub struct CVisited {
     pub code: u32,
     pub node: u32,
@@ -33,7 +33,7 @@ pub struct CVisited {
 
 // The two nodes of a pair.
 #[repr(C)]
-#[derive(Drop)]
+#[derive(Clone, Copy)]
 pub struct CChildren {
     pub code: u32,
     pub node: u32,
@@ -44,7 +44,7 @@ pub struct CChildren {
 
 // Where an atom's bytes are: place 0 is the byte store, 1 the scratch.
 #[repr(C)]
-#[derive(Drop)]
+#[derive(Clone, Copy)]
 pub struct CPart {
     pub code: u32,
     pub node: u32,
@@ -55,7 +55,7 @@ pub struct CPart {
 
 // Whether a node outlives a restore: 0 before, 1 after with new bytes, 2 after with old bytes.
 #[repr(C)]
-#[derive(Drop)]
+#[derive(Clone, Copy)]
 pub struct CStatus {
     pub code: u32,
     pub node: u32,
@@ -66,7 +66,7 @@ pub struct CStatus {
 
 // The node that a call made; what the call did to the record stands in the record's words.
 #[repr(C)]
-#[derive(Drop)]
+#[derive(Clone, Copy)]
 pub struct CAnswer {
     pub code: u32,
     pub node: u32,
@@ -74,7 +74,7 @@ pub struct CAnswer {
 
 // What a restore with a node did: 0 no replacement, 1 replaced, 2 aborted.
 #[repr(C)]
-#[derive(Drop)]
+#[derive(Clone, Copy)]
 pub struct CRestored {
     pub code: u32,
     pub node: u32,
@@ -83,7 +83,7 @@ pub struct CRestored {
 
 // The root of a program file, and where reading came to; on a refusal, where the item at fault starts.
 #[repr(C)]
-#[derive(Drop)]
+#[derive(Clone, Copy)]
 pub struct CLoaded {
     pub code: u32,
     pub node: u32,

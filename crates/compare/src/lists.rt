@@ -55,7 +55,7 @@ fn pattern<'a>(window: &'a [u8], from: u64, to: u64) -> &'a [u8] {
 }
 
 // What a line lays into one list: from where on, how many, the first number and the step.
-#[derive(Drop)]
+#[derive(Clone, Copy)]
 struct Laid {
     at: usize,
     n: usize,

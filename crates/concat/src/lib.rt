@@ -1,4 +1,5 @@
 // new_concat: the bytes of several atoms, joined.
+#![tactic(auto)]
 mod copies;
 mod sizes;
 

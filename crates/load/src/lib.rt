@@ -1,4 +1,5 @@
 // Program files: the serialised form read into the slots through new_atom and new_pair (document 02, W1).
+#![tactic(auto)]
 mod token;
 
 ghost use Rattle.std.specs.Prelude.{◌≡◌, ◌≤◌, ◌<◌, length};
@@ -18,7 +19,7 @@ use words::RecordWords;
 
 // An item's node, and where in the file the next item starts; or a code, and where the item at fault starts. The record stays in its words:
 // handed on by value it would take most of the stack of each level.
-#[derive(Drop)]
+#[derive(Clone, Copy)]
 pub struct Found {
     pub answer: Answer,
     pub at: usize,

@@ -4,7 +4,7 @@ ghost use Rattle.rules.specs.Serial.{base_of, prefixed as prefixed_of, token as 
 ghost use Rattle.load.specs.Tokens.{token_paper};
 
 // Nothing that starts an item, or an atom cut short; ff; an atom, from where its bytes start to where the next item does.
-#[derive(Drop)]
+#[derive(Clone, Copy)]
 pub enum Token {
     Broken,
     Opening,

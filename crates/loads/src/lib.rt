@@ -1,1 +1,2 @@
 // Theorems about what a load makes of a file: no code stands here.
+#![tactic(auto)]

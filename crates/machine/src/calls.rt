@@ -16,7 +16,7 @@ use request::{Making, Way, fields};
 use rules::{Allocator, Answer, Changed, Checkpoint, Made, MaybeRestore, Restored, Verdict};
 
 // What a creating call or a ghost call is told, and the record that it leaves.
-#[derive(Drop)]
+#[derive(Clone, Copy)]
 pub struct Called {
     pub told: Told,
     pub state: Allocator,

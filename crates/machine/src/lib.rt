@@ -1,4 +1,5 @@
 // The machine of the request program between two records, and what a request does to it and to the lent lists.
+#![tactic(auto)]
 mod calls;
 
 ghost use Rattle.std.specs.Prelude.{◌≡◌, length};
@@ -20,7 +21,7 @@ pub const BAD_RECORD: usize = 16;
 const CHECKPOINTS: usize = 32;
 
 // The record, how many rows are shown, what restores released, and the checkpoints taken, by their number.
-#[derive(Drop)]
+#[derive(Clone, Copy)]
 pub struct Machine {
     pub state: Allocator,
     pub shown: usize,
@@ -30,21 +31,21 @@ pub struct Machine {
 }
 
 // The node that an answer names, if it does.
-#[derive(Drop)]
+#[derive(Clone, Copy)]
 pub enum Named {
     Node(u32),
     Nothing,
 }
 
 // What a request is told: the code, 0 where it was accepted, and the node.
-#[derive(Drop)]
+#[derive(Clone, Copy)]
 pub struct Told {
     pub code: usize,
     pub node: Named,
 }
 
 // What a request did: the machine after it, and what it is told.
-#[derive(Drop)]
+#[derive(Clone, Copy)]
 pub struct Did {
     pub machine: Machine,
     pub told: Told,

@@ -1,4 +1,5 @@
 // The outline of a tree: a line a node, two spaces further in at each level, down to a depth.
+#![tactic(auto)]
 pub mod page;
 
 ghost use Rattle.std.specs.Prelude.{◌+◌, ◌≤◌};

@@ -3,7 +3,7 @@ ghost use Rattle.std.specs.Prelude.{◌≤◌};
 
 use outline::DEEPEST;
 
-#[derive(Drop)]
+#[derive(Clone, Copy)]
 pub enum Asked {
     Depth(usize),
     Nothing,

@@ -1,6 +1,7 @@
 // Shows program files: the length, the root, the counts that a run starts from, and an outline of the tree.
 //     panel [-DEPTH] [FILE..]
 // -DEPTH is how many levels of the outline are shown, 8 unless it is given. With no FILE, or for `-`, standard input is read.
+#![tactic(auto)]
 mod depth;
 mod lines;
 mod program;
@@ -55,7 +56,7 @@ fn show(name: &[u8], depth: usize) {
 }
 
 // What the arguments so far have come to: the depth, and whether one of them was a file.
-#[derive(Drop)]
+#[derive(Clone, Copy)]
 struct Seen {
     depth: usize,
     file: bool,

@@ -5,7 +5,7 @@ ghost use Rattle.io.specs.Counts.{IsPrefixLen};
 use libc::STDIN_FILENO;
 
 // How reading ended.
-#[derive(Drop)]
+#[derive(Clone, Copy)]
 pub enum End {
     Whole,
     TooLong,
@@ -14,14 +14,14 @@ pub enum End {
 }
 
 // How many bytes came, and how reading ended.
-#[derive(Drop)]
+#[derive(Clone, Copy)]
 pub struct Got {
     pub n: usize,
     pub end: End,
 }
 
 // What one read gave. No bytes are the end of the file, unless the read failed.
-#[derive(Drop)]
+#[derive(Clone, Copy)]
 struct Part {
     n: usize,
     failed: bool,

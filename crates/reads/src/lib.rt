@@ -1,4 +1,5 @@
 // The calls that only read. Each does its own checking: any record, node and slices get an answer or a code.
+#![tactic(auto)]
 pub mod arg;
 pub mod eq;
 pub mod part;

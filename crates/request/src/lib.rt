@@ -1,4 +1,5 @@
 // What a record of the request program asks, read from the input alone: numbers, and ranges of the input where bytes or nodes stand.
+#![tactic(auto)]
 pub mod fields;
 
 ghost use Rattle.std.specs.Prelude.{◌≡◌, List, ℕ, ◌≤◌, ◌<◌, length};
@@ -38,7 +39,7 @@ const SIZE: usize = 8;
 
 // A call that creates, or counts ghosts. The bytes of an atom, and the nodes of a concat behind its size, stand in the input from
 // the one index up to the other.
-#[derive(Drop)]
+#[derive(Clone, Copy)]
 pub enum Making {
     Atom(usize, usize),
     SmallNumber(u32),
@@ -51,7 +52,7 @@ pub enum Making {
 }
 
 // How a restore goes back to a checkpoint.
-#[derive(Drop)]
+#[derive(Clone, Copy)]
 pub enum Way {
     Plainly,
     Transparently,
@@ -59,7 +60,7 @@ pub enum Way {
 }
 
 // A restore names its checkpoint by the number that it was taken as.
-#[derive(Drop)]
+#[derive(Clone, Copy)]
 pub enum Request {
     Make(Making),
     TakeCheckpoint,
@@ -68,14 +69,14 @@ pub enum Request {
 }
 
 // What stands at the front of the input: a whole record, of a kind and a payload length, or none.
-#[derive(Drop)]
+#[derive(Clone, Copy)]
 pub enum Frame {
     Whole(usize, usize),
     Short,
 }
 
 // A request, and how many bytes of the input are its record; 0 where no whole record stands there.
-#[derive(Drop)]
+#[derive(Clone, Copy)]
 pub struct Asked {
     pub request: Request,
     pub size: usize,

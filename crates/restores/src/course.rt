@@ -17,7 +17,7 @@ const CLONE_ATOM_LIMIT: usize = 48;
 const MIN_SAVINGS: usize = 1024;
 
 // Refuse; leave all as it is; restore; restore and give a range a new slot; restore and make an atom of the bytes again.
-#[derive(Drop)]
+#[derive(Clone, Copy)]
 pub enum Course {
     Refuse(Code, u32),
     Abort,

@@ -1,9 +1,10 @@
 // The types of the port: the record, its checkpoints, the codes, and one answer enum for each kind of answer.
 // What each case means, with document 01's numbers, is set out in specs/Paper.antt.
+#![tactic(auto)]
 
 // How many atoms, pairs and bytes.
 #[repr(C)]
-#[derive(Drop)]
+#[derive(Clone, Copy)]
 pub struct Counts {
     pub atoms: usize,
     pub pairs: usize,
@@ -12,7 +13,7 @@ pub struct Counts {
 
 // The record: seven numbers. What is used lies in the lent slices; ghosts are counted as if they did.
 #[repr(C)]
-#[derive(Drop)]
+#[derive(Clone, Copy)]
 pub struct Allocator {
     pub used: Counts,
     pub ghosts: Counts,
@@ -21,14 +22,14 @@ pub struct Allocator {
 
 // A plain checkpoint. A transparent one is the used counts alone.
 #[repr(C)]
-#[derive(Drop)]
+#[derive(Clone, Copy)]
 pub struct Checkpoint {
     pub used: Counts,
     pub ghosts: Counts,
 }
 
 // Why a call refuses, in the order of document 01's table.
-#[derive(Drop)]
+#[derive(Clone, Copy)]
 pub enum Code {
     Unsound,
     OutOfMemory,
@@ -52,14 +53,14 @@ pub enum Code {
 }
 
 // A call that answers nothing but whether it was done: the code, and the node that goes with it.
-#[derive(Drop)]
+#[derive(Clone, Copy)]
 pub enum Verdict {
     Done,
     Refused(Code, u32),
 }
 
 // The kind of a node.
-#[derive(Drop)]
+#[derive(Clone, Copy)]
 pub enum ObjectType {
     Pair,
     Bytes,
@@ -68,7 +69,7 @@ pub enum ObjectType {
 }
 
 // A node's bits taken apart: its index, or its value.
-#[derive(Drop)]
+#[derive(Clone, Copy)]
 pub enum View {
     Pair(usize),
     Bytes(usize),
@@ -77,7 +78,7 @@ pub enum View {
 }
 
 // A node argument after its tests: a pair's index; a Bytes node's index, start and end; a value.
-#[derive(Drop)]
+#[derive(Clone, Copy)]
 pub enum Arg {
     Pair(usize),
     Bytes(usize, usize, usize),
@@ -86,20 +87,20 @@ pub enum Arg {
 }
 
 // An atom argument after its tests: the range of its bytes, or its value.
-#[derive(Drop)]
+#[derive(Clone, Copy)]
 pub enum Atom {
     Range(usize, usize),
     Value(u32),
     Refused(Code, u32),
 }
 
-#[derive(Drop)]
+#[derive(Clone, Copy)]
 pub enum Number {
     Is(usize),
     Refused(Code, u32),
 }
 
-#[derive(Drop)]
+#[derive(Clone, Copy)]
 pub enum Truth {
     Yes,
     No,
@@ -107,13 +108,13 @@ pub enum Truth {
 }
 
 // What a byte string is as a small atom.
-#[derive(Drop)]
+#[derive(Clone, Copy)]
 pub enum Fits {
     Value(u32),
     Nothing,
 }
 
-#[derive(Drop)]
+#[derive(Clone, Copy)]
 pub enum SmallNumber {
     Value(u32),
     Nothing,
@@ -121,7 +122,7 @@ pub enum SmallNumber {
 }
 
 // What node() answers: where the bytes lie, the value, or the two children.
-#[derive(Drop)]
+#[derive(Clone, Copy)]
 pub enum NodeVisitor {
     Buffer(usize, usize),
     U32(u32),
@@ -129,14 +130,14 @@ pub enum NodeVisitor {
     Refused(Code, u32),
 }
 
-#[derive(Drop)]
+#[derive(Clone, Copy)]
 pub enum SExp {
     Atom,
     Pair(u32, u32),
     Refused(Code, u32),
 }
 
-#[derive(Drop)]
+#[derive(Clone, Copy)]
 pub enum Next {
     Pair(u32, u32),
     Nothing,
@@ -144,7 +145,7 @@ pub enum Next {
 }
 
 // Whether a node outlives a restore, and if not whether its bytes do.
-#[derive(Drop)]
+#[derive(Clone, Copy)]
 pub enum NodeStatus {
     Before,
     AfterNewBytes,
@@ -152,26 +153,26 @@ pub enum NodeStatus {
     Refused(Code, u32),
 }
 
-#[derive(Drop)]
+#[derive(Clone, Copy)]
 pub enum Taken {
     Plain(Checkpoint),
     Refused(Code, u32),
 }
 
-#[derive(Drop)]
+#[derive(Clone, Copy)]
 pub enum TakenCounts {
     Transparent(Counts),
     Refused(Code, u32),
 }
 
 // The node that a creating call made.
-#[derive(Drop)]
+#[derive(Clone, Copy)]
 pub enum Answer {
     Node(u32),
     Refused(Code, u32),
 }
 
-#[derive(Drop)]
+#[derive(Clone, Copy)]
 pub enum MaybeRestore {
     NoReplace,
     Replace(u32),
@@ -180,26 +181,26 @@ pub enum MaybeRestore {
 }
 
 // An answer beside the record that the call leaves.
-#[derive(Drop)]
+#[derive(Clone, Copy)]
 pub struct Made {
     pub answer: Answer,
     pub state: Allocator,
 }
 
-#[derive(Drop)]
+#[derive(Clone, Copy)]
 pub struct Changed {
     pub verdict: Verdict,
     pub state: Allocator,
 }
 
-#[derive(Drop)]
+#[derive(Clone, Copy)]
 pub struct Restored {
     pub answer: MaybeRestore,
     pub state: Allocator,
 }
 
 // What reading a file comes to: the node, and where in the file the next item starts; or a code, and where the item at fault starts.
-#[derive(Drop)]
+#[derive(Clone, Copy)]
 pub struct Loaded {
     pub answer: Answer,
     pub at: usize,

@@ -25,7 +25,7 @@ use Rattle.runs.specs.Wf.{WF}
 use Rattle.runs.specs.Makes.{stored, shared, paired, fitted, parted, Within, PartGiven}
 use Rattle.runs.specs.Causes as W
 use Rattle.runs.specs.Causes.{RefusedBy, Full, Free, RoomFor, AtomCause, NumberCause, PairCause, MorePairsCause, FewerPairsCause, MoreAtomsCause, NodeCause, PartCause, ScanCause, JoinCause, Cause}
-use Rattle.runs.proofs.Tests.{and_true, clash, →limits, →pairs, →store, →slot, →holds, valid→, →valid}
+use Rattle.runs.proofs.Tests.{and-true, clash, →limits, →pairs, →store, →slot, →holds, valid→, →valid}
 use Rattle.runs.proofs.Atoms.{NoAtom, not_valid, bad-slot, a_pair, AtomIs, no_atom, in_store, itself, atom-is, Found, found, atom_in, shown-length}
 use Rattle.runs.proofs.Joining.{scanned, given}
 
@@ -98,7 +98,7 @@ module _ {s : St} (w : WF s) where
       most h = let u = w.sound in omega arith
 
       no_pair : (ltb s.rec.used.pairs (length s.lists.pairs.firsts) && ltb s.rec.used.pairs (length s.lists.pairs.rests)) ≡ false → RoomFor s (paired s) → ⊥
-      no_pair t r = clash _ t (and_true _ _
+      no_pair t r = clash _ t (and-true _ _
           (lt-ltb s.rec.used.pairs (length s.lists.pairs.firsts) (omega arith)) (lt-ltb s.rec.used.pairs (length s.lists.pairs.rests) (omega arith)))
 
   pub more_pairs_cause : (amount : ℕ) → RefusedBy (MorePairsCause s amount) (add_ghost_pair amount s).said

@@ -19,8 +19,8 @@ use Rattle.rules.proofs.Sound.{lists-lent}
 use Rattle.rules.specs.Whole.{St}
 use Rattle.runs.specs.Wf.{Valid, Sound, SlotOk, PairOk, Shape}
 
-pub and_true : (x y : Bool) → x ≡ true → y ≡ true → (x && y) ≡ true
-and_true x y h g = rw (h, g)
+pub and-true : (x y : Bool) → x ≡ true → y ≡ true → (x && y) ≡ true
+and-true x y h g = rw (h, g)
 
 pub clash : {A : Type 0} (b : Bool) → b ≡ false → b ≡ true → A
 clash b h g = absurd (false≢true (sym h ∙ g))
@@ -139,7 +139,7 @@ well-formed s = (to, from)
         → (lists_sound s.rec s.lists && atom_slots_sound s.rec.used s.lists.atoms && pair_slots_sound s.rec.used s.lists.pairs) ≡ true
     from h =
         let z : Slots s.rec.used s.lists.atoms s.lists.pairs = record { slot = h.1.slot; pair = h.1.pair } in
-        and_true _ _ (and_true _ _ (→sound h.0) (→slots-atoms _ _ _ z)) (→slots-pairs _ _ _ z)
+        and-true _ _ (and-true _ _ (→sound h.0) (→slots-atoms _ _ _ z)) (→slots-pairs _ _ _ z)
 
 -- ---- checkpoints
 

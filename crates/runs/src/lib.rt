@@ -1,1 +1,2 @@
 // Theorems about the rules alone: no code stands here.
+#![tactic(auto)]

@@ -1,1 +1,2 @@
 // Theorems about saved program files: no code stands here.
+#![tactic(auto)]

@@ -34,7 +34,7 @@ fn opened(fd: i32, desk: &mut Desk) -> i32 {
 }
 
 // What was fetched: how many bytes, and how many of them stand before the first newline.
-#[derive(Drop)]
+#[derive(Clone, Copy)]
 pub struct Fetched {
     pub have: usize,
     pub to: usize,

@@ -6,7 +6,7 @@ use super::desk::Desk;
 use bytes::scan;
 
 // A number that was read: whether there is one, its value, and where it ends.
-#[derive(Drop)]
+#[derive(Clone, Copy)]
 pub struct Got {
     pub ok: bool,
     pub value: u64,
@@ -14,7 +14,7 @@ pub struct Got {
 }
 
 // Numbers that were read: how many, and where they end.
-#[derive(Drop)]
+#[derive(Clone, Copy)]
 pub struct Read {
     pub count: usize,
     pub at: usize,

@@ -119,7 +119,7 @@ const TABLE: [u8; 2196] = *b"\
     file                            ----";
 
 // What a row asks of its line.
-#[derive(Drop)]
+#[derive(Clone, Copy)]
 pub struct Shape {
     pub name: usize,
     pub text: bool,

@@ -1,1 +1,2 @@
 // Theorems about the serialised form alone: no code stands here.
+#![tactic(auto)]

@@ -1,5 +1,6 @@
 // A state: its record and the slices lent beside it. The public calls that make a record, read its counts, take a
 // checkpoint of it, or say whether a state is well-formed.
+#![tactic(auto)]
 pub mod record;
 pub mod sound;
 

@@ -1,16 +1,17 @@
 // Rows as text, put into a lent buffer from an index on (document 01, "The request program").
+#![tactic(auto)]
 ghost use Rattle.std.specs.Prelude.{◌≡◌, ◌+◌, ◌≤◌, length};
 ghost use Rattle.text.specs.Text.{Put, row_text, shown_text, number_text, end_text, head_text, long_text};
 
 // The node column: a node, or `-`.
-#[derive(Drop)]
+#[derive(Clone, Copy)]
 pub enum Shown {
     Node(u32),
     Nothing,
 }
 
 // The columns of a row.
-#[derive(Drop)]
+#[derive(Clone, Copy)]
 pub struct Row {
     pub n: usize,
     pub code: usize,

@@ -15,7 +15,7 @@ const LONGEST: usize = 65536;
 const ROOM: usize = 172;
 
 // One record done and its row written: the machine after it, the record's length (0 where the run ends), where the text ends.
-#[derive(Drop)]
+#[derive(Clone, Copy)]
 pub struct Moved {
     pub machine: Machine,
     pub size: usize,
@@ -23,7 +23,7 @@ pub struct Moved {
 }
 
 // How far the records were done, where the text ends, and whether the last line was written.
-#[derive(Drop)]
+#[derive(Clone, Copy)]
 pub struct Ran {
     pub machine: Machine,
     pub at: usize,

@@ -7,7 +7,7 @@ use machine::{Did, Machine, Named};
 use text::{Row, Shown};
 
 // A row, the machine after it, and the record's length; 0 where the run ends.
-#[derive(Drop)]
+#[derive(Clone, Copy)]
 pub struct Step {
     pub machine: Machine,
     pub row: Row,

@@ -1,5 +1,6 @@
 // Replays the traces that its arguments name, one after the other: the name, and then what `replay` prints of the file.
 // ../make.py writes the files in data, the arguments and what is to be printed, which it reckons by a model in Python.
+#![tactic(auto)]
 use libc::STDOUT_FILENO;
 
 // One trace, and a word where there is no such file.

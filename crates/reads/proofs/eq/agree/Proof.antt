@@ -1,7 +1,7 @@
 -- `reads::eq::agree` meets its contract. The loop's invariant: the whole is equal where no byte was odd so far and the rests from i on are. Assumes nothing.
 use Prim.Native.Nat.{◌≤◌, ◌-◌}
 use mathlib.Core.Path.{◌≡◌, refl, sym, ap, ◌∙◌}
-use mathlib.Core.Bool.{◌&&◌, and-false, and_true}
+use mathlib.Core.Bool.{◌&&◌, and-false, and-true}
 use native.Mathlib.Omega.{arith}
 use lib.Dec.{eqb}
 use lib.ListN.{length, drop}
@@ -47,7 +47,7 @@ returns c =
     let (start, loop) : tie.Start invariant-loop decreases-loop × tie.At-loop invariant-loop decreases-loop = search in
     let a = start.args in
     let l = loop.loop in
-    sym (l.inv.1 ∙ ap (λ b. eqb l.odd 0 && b) (same_end a.x.now a.y.now l.i (omega arith) (omega (arith, start.pre))) ∙ and_true (eqb l.odd 0))
+    sym (l.inv.1 ∙ ap (λ b. eqb l.odd 0 && b) (same_end a.x.now a.y.now l.i (omega arith) (omega (arith, start.pre))) ∙ and-true (eqb l.odd 0))
 
 pub agree-spec : {M : Type 1} → statement M
 agree-spec =
