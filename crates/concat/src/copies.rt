@@ -20,7 +20,7 @@ fn copy_small(bytes: &mut [u8], v: u32, at: usize) -> usize
     node::put_be(&mut buf, v as u64, 4);
     let len = node::len_for_value(v);
     let from = 4 - len;
-    bytes::copy(&buf[from..], &mut bytes[at..]);
+    octets::copy(&buf[from..], &mut bytes[at..]);
     at + len
 }
 

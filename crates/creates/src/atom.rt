@@ -66,7 +66,7 @@ pub fn store_atom(
     if store_room(a, v.len(), bytes.len(), starts.len(), ends.len()) {
         let from = a.used.bytes;
         let at = a.used.atoms;
-        bytes::copy(v, &mut bytes[from..]);
+        octets::copy(v, &mut bytes[from..]);
         starts[at] = from as u32;
         ends[at] = (from + v.len()) as u32;
         return Made {

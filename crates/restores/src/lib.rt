@@ -130,7 +130,7 @@ fn copy_node(
 {
     let len = end - start;
     let mut saved = [0u8; 48];
-    bytes::copy(&bytes[start..end], &mut saved);
+    octets::copy(&bytes[start..end], &mut saved);
     let less = record::less_ghosts(len, record::cut(k, a));
     let made = atom::small_or(less, bytes, starts, ends, &saved[..len], len);
     settle(a, made)

@@ -46,11 +46,11 @@ pub fn put_form(v: &[u8], file: &mut [u8], at: usize) -> usize
 {
     let len = v.len();
     if alone(v) {
-        bytes::copy(v, &mut file[at..]);
+        octets::copy(v, &mut file[at..]);
         return at + len;
     }
     let from = put_prefix(len, file, at);
-    bytes::copy(v, &mut file[from..]);
+    octets::copy(v, &mut file[from..]);
     from + len
 }
 

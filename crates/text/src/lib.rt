@@ -26,7 +26,7 @@ fn put(out: &mut [u8], w: usize, s: &[u8]) -> usize
     requires { w + length s.now ≤ length out.old }
     ensures { Put out.old out.new w result s.now }
 {
-    bytes::copy(s, &mut out[w..]);
+    octets::copy(s, &mut out[w..]);
     w + s.len()
 }
 
