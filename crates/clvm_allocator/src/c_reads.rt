@@ -55,8 +55,8 @@ pub extern "C" fn clvm_atom(
     scratch: &mut [u8],
     n: u32,
 ) -> CPart
-    ensures value { result ≡ part_c (atom_lent (record_in a.now) bytes.now starts.now ends.now scratch.old n) }
-    ensures scratch_after { scratch.new
+    ensures answer { result ≡ part_c (atom_lent (record_in a.now) bytes.now starts.now ends.now scratch.old n) }
+    ensures scratch { scratch.new
         ≡ scratch_after (atom_lent (record_in a.now) bytes.now starts.now ends.now scratch.old n) scratch.old }
 {
     let found = part::filled(words::record(a), bytes, starts, ends, scratch, n);

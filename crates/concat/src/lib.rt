@@ -63,7 +63,7 @@ fn measure_one(a: Allocator, starts: &[u32], ends: &[u32], size: usize, n: u32) 
 // One atom joined is that atom, counted as if it had been allocated again.
 fn concat_one(a: Allocator, starts: &[u32], ends: &[u32], size: usize, n: u32) -> Made
     requires atoms_within { AtomsWithin a starts.now ends.now }
-    requires atoms_bound { (a.ghosts.atoms < 62500000) × (a.ghosts.bytes + size ≤ 8589934590) }
+    requires counts { (a.ghosts.atoms < 62500000) × (a.ghosts.bytes + size ≤ 8589934590) }
     ensures { (b : List ℕ) → made result (store b (atom_slots_in starts.now ends.now))
         ≡ concat_put a size (n ∷ []) (store b (atom_slots_in starts.now ends.now)) }
 {
@@ -87,8 +87,8 @@ fn put_joined(
     nodes: &[u32],
 ) -> Made
     requires tested { Tested a size (length bytes.old) (length starts.old) (length ends.old) }
-    requires ends_value { store_room a size (store_in bytes.old starts.old ends.old) ≡ true }
-    requires nodes_len { length (joined a (store_in bytes.old starts.old ends.old) nodes.now) ≡ size }
+    requires room { store_room a size (store_in bytes.old starts.old ends.old) ≡ true }
+    requires size { length (joined a (store_in bytes.old starts.old ends.old) nodes.now) ≡ size }
     ensures { made result (store_in bytes.new starts.new ends.new)
         ≡ joined_put a size nodes.now (store_in bytes.old starts.old ends.old) }
 {

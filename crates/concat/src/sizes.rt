@@ -39,7 +39,7 @@ fn add_term(
     n: u32,
 ) -> Number
     requires atoms_within { AtomsWithin a starts.now ends.now }
-    requires bytes_bound { (a.used.bytes ≤ 4294967295) × (size ≤ 4294967295) × (counter ≤ size + 1) }
+    requires bounds { (a.used.bytes ≤ 4294967295) × (size ≤ 4294967295) × (counter ≤ size + 1) }
     ensures { number_paper result ≡ ran size n counter (atom_of a (atom_slots_in starts.now ends.now) n) }
 {
     let found = arg::atom_of(a, starts, ends, n);
@@ -59,7 +59,7 @@ fn add_term(
 // All terms, and at the end their whole length.
 pub fn measure(a: Allocator, starts: &[u32], ends: &[u32], size: usize, nodes: &[u32]) -> Verdict
     requires atoms_within { AtomsWithin a starts.now ends.now }
-    requires bytes_bound { (a.used.bytes ≤ 4294967295) × (size ≤ 4294967295) }
+    requires bounds { (a.used.bytes ≤ 4294967295) × (size ≤ 4294967295) }
     ensures { verdict_paper result ≡ scan a (atom_slots_in starts.now ends.now) size nodes.now 0 }
 {
     let mut counter: usize = 0;

@@ -102,8 +102,8 @@ fn part_of_small(
     start: usize,
     end: usize,
 ) -> Made
-    requires atoms_bound { (a.used.atoms + a.ghosts.atoms < 62500000) × (a.ghosts.bytes ≤ 8589934590) }
-    requires v_bound { (v < 67108864) × (start ≤ end) × (end ≤ len_for v) }
+    requires counts { (a.used.atoms + a.ghosts.atoms < 62500000) × (a.ghosts.bytes ≤ 8589934590) }
+    requires part { (v < 67108864) × (start ≤ end) × (end ≤ len_for v) }
     ensures { made result (store_in bytes.new starts.new ends.new)
         ≡ small_or (fits (slice start end (small_bytes v))) 0 a (slice start end (small_bytes v)) (store_in bytes.old starts.old ends.old) }
 {

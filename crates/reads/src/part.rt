@@ -46,8 +46,8 @@ pub fn filled(
     scratch: &mut [u8],
     n: u32,
 ) -> rules::Atom
-    ensures result_value { atom_paper result ≡ atom_lent a bytes.now starts.now ends.now scratch.old n }
-    ensures scratch_after { scratch.new
+    ensures answer { atom_paper result ≡ atom_lent a bytes.now starts.now ends.now scratch.old n }
+    ensures scratch { scratch.new
         ≡ scratch_after (atom_lent a bytes.now starts.now ends.now scratch.old n) scratch.old }
 {
     let part = part_of(a, bytes, starts, ends, n, scratch.len());
@@ -70,8 +70,8 @@ pub fn fill(
     scratch: &mut [u8],
     n: u32,
 ) -> Verdict
-    ensures result_value { verdict_paper result ≡ says_of (λ x. done) (atom_lent a bytes.now starts.now ends.now scratch.old n) }
-    ensures scratch_after { scratch.new
+    ensures answer { verdict_paper result ≡ says_of (λ x. done) (atom_lent a bytes.now starts.now ends.now scratch.old n) }
+    ensures scratch { scratch.new
         ≡ scratch_after (atom_lent a bytes.now starts.now ends.now scratch.old n) scratch.old }
 {
     let part = filled(a, bytes, starts, ends, scratch, n);
@@ -91,11 +91,11 @@ pub fn atom<'a>(
     scratch: &'a [u8],
     n: u32,
 ) -> &'a [u8]
-    ensures result_value { result.now
+    ensures part { result.now
         ≡ part_bytes bytes.now scratch.now (atom_lent a bytes.now starts.now ends.now scratch.now n) }
-    ensures ref_ptr_value { result.ref_ptr.0
+    ensures block { result.ref_ptr.0
         ≡ block_of bytes.entry.ref_ptr.0 scratch.entry.ref_ptr.0 (atom_lent a bytes.now starts.now ends.now scratch.now n) }
-    ensures ref_ptr_value_2 { result.ref_ptr.1
+    ensures offset { result.ref_ptr.1
         ≡ offset_of bytes.entry.ref_ptr.1 scratch.entry.ref_ptr.1 (atom_lent a bytes.now starts.now ends.now scratch.now n) }
 {
     let part = part_of(a, bytes, starts, ends, n, scratch.len());

@@ -81,12 +81,12 @@ fn put(
     file: &mut [u8],
     at: usize,
 ) -> usize
-    requires rests_value { lists_sound a (lists_in bytes.now starts.now ends.now firsts.now rests.now) ≡ true }
-    requires at_in_bounds { (at ≤ length file.old) × Accepted (form_of a (lists_in bytes.now starts.now ends.now firsts.now rests.now) levels (length file.old - at) n) }
-    ensures file_after { file.new
+    requires sound { lists_sound a (lists_in bytes.now starts.now ends.now firsts.now rests.now) ≡ true }
+    requires fits { (at ≤ length file.old) × Accepted (form_of a (lists_in bytes.now starts.now ends.now firsts.now rests.now) levels (length file.old - at) n) }
+    ensures written { file.new
         ≡ over file.old at
         (formed (form_of a (lists_in bytes.now starts.now ends.now firsts.now rests.now) levels (length file.old - at) n)) }
-    ensures value { result
+    ensures end { result
         ≡ at + length
         (formed (form_of a (lists_in bytes.now starts.now ends.now firsts.now rests.now) levels (length file.old - at) n)) }
 {

@@ -44,7 +44,7 @@ fn advance(
     w: usize,
 ) -> Moved
     requires ready { Ready m (lists_in bytes.old starts.old ends.old firsts.old rests.old) }
-    requires shown_bound { (m.shown < 536870912) × (0 < length rest.now) × (w + 126 ≤ length out.old) }
+    requires bounds { (m.shown < 536870912) × (0 < length rest.now) × (w + 126 ≤ length out.old) }
     ensures { Advanced
         m (lists_in bytes.old starts.old ends.old firsts.old rests.old) rest.now out.old w
         (lists_in bytes.new starts.new ends.new firsts.new rests.new) out.new result }
@@ -92,7 +92,7 @@ pub fn run(
     w0: usize,
 ) -> Ran
     requires ready { Ready m0 (lists_in bytes.old starts.old ends.old firsts.old rests.old) }
-    requires shown_bound { (4 * m0.shown ≤ at0) × (at0 ≤ length input.now) × (length input.now ≤ 1048576) × (w0 + 46 ≤ length out.old) }
+    requires bounds { (4 * m0.shown ≤ at0) × (at0 ≤ length input.now) × (length input.now ≤ 1048576) × (w0 + 46 ≤ length out.old) }
     ensures { RanFrom
         m0 (lists_in bytes.old starts.old ends.old firsts.old rests.old) input.now out.old at0 w0
         (lists_in bytes.new starts.new ends.new firsts.new rests.new) out.new result }

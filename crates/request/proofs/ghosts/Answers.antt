@@ -14,7 +14,7 @@ u64_at-requires c =
 pub returns-then-kind-eq-ADD_GHOST_PAIR : goal.returns-then-kind-eq-ADD_GHOST_PAIR
 unfolding ghosts_of
 returns-then-kind-eq-ADD_GHOST_PAIR c =
-    record { by_index = λ i. simp (eq-eqb _ _ c.if-kind-eq-ADD_GHOST_PAIR.true, ← c.u64_at.ensures); by_index_2 = λ n. tt }
+    record { meaning = λ i. simp (eq-eqb _ _ c.if-kind-eq-ADD_GHOST_PAIR.true, ← c.u64_at.ensures); within = λ n. tt }
 
 pub u64_at-requires-then-kind-eq-REMOVE_GHOST_PAIR : goal.u64_at-requires-then-kind-eq-REMOVE_GHOST_PAIR
 unfolding size_of
@@ -24,7 +24,7 @@ u64_at-requires-then-kind-eq-REMOVE_GHOST_PAIR c =
 pub returns-then-kind-eq-REMOVE_GHOST_PAIR : goal.returns-then-kind-eq-REMOVE_GHOST_PAIR
 unfolding ghosts_of
 returns-then-kind-eq-REMOVE_GHOST_PAIR c =
-    record { by_index = λ i. simp (ne_eqb _ _ c.if-kind-eq-ADD_GHOST_PAIR.false, eq-eqb _ _ c.if-kind-eq-REMOVE_GHOST_PAIR.true, ← c.u64_at-then-kind-eq-REMOVE_GHOST_PAIR.ensures); by_index_2 = λ n. tt }
+    record { meaning = λ i. simp (ne_eqb _ _ c.if-kind-eq-ADD_GHOST_PAIR.false, eq-eqb _ _ c.if-kind-eq-REMOVE_GHOST_PAIR.true, ← c.u64_at-then-kind-eq-REMOVE_GHOST_PAIR.ensures); within = λ n. tt }
 
 pub u64_at-requires-then-kind-eq-ADD_GHOST_ATOM : goal.u64_at-requires-then-kind-eq-ADD_GHOST_ATOM
 unfolding size_of
@@ -34,9 +34,9 @@ u64_at-requires-then-kind-eq-ADD_GHOST_ATOM c =
 pub returns-then-kind-eq-ADD_GHOST_ATOM : goal.returns-then-kind-eq-ADD_GHOST_ATOM
 unfolding ghosts_of
 returns-then-kind-eq-ADD_GHOST_ATOM c =
-    record { by_index = λ i. simp (ne_eqb _ _ c.if-kind-eq-ADD_GHOST_PAIR.false, ne_eqb _ _ c.if-kind-eq-REMOVE_GHOST_PAIR.false, eq-eqb _ _ c.if-kind-eq-ADD_GHOST_ATOM.true, ← c.u64_at-then-kind-eq-ADD_GHOST_ATOM.ensures); by_index_2 = λ n. tt }
+    record { meaning = λ i. simp (ne_eqb _ _ c.if-kind-eq-ADD_GHOST_PAIR.false, ne_eqb _ _ c.if-kind-eq-REMOVE_GHOST_PAIR.false, eq-eqb _ _ c.if-kind-eq-ADD_GHOST_ATOM.true, ← c.u64_at-then-kind-eq-ADD_GHOST_ATOM.ensures); within = λ n. tt }
 
 pub returns : goal.returns
 unfolding ghosts_of
 returns c =
-    record { by_index = λ i. simp (ne_eqb _ _ c.if-kind-eq-ADD_GHOST_PAIR.false, ne_eqb _ _ c.if-kind-eq-REMOVE_GHOST_PAIR.false, ne_eqb _ _ c.if-kind-eq-ADD_GHOST_ATOM.false); by_index_2 = λ n. tt }
+    record { meaning = λ i. simp (ne_eqb _ _ c.if-kind-eq-ADD_GHOST_PAIR.false, ne_eqb _ _ c.if-kind-eq-REMOVE_GHOST_PAIR.false, ne_eqb _ _ c.if-kind-eq-ADD_GHOST_ATOM.false); within = λ n. tt }

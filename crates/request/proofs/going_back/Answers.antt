@@ -14,7 +14,7 @@ u16_at-requires c =
 pub returns-then-kind-eq-RESTORE : goal.returns-then-kind-eq-RESTORE
 unfolding back_of
 returns-then-kind-eq-RESTORE c =
-    record { by_index = λ i. simp (eq-eqb _ _ c.if-kind-eq-RESTORE.true, ← c.u16_at.ensures.value); by_index_2 = λ n. tt }
+    record { meaning = λ i. simp (eq-eqb _ _ c.if-kind-eq-RESTORE.true, ← c.u16_at.ensures.value); within = λ n. tt }
 
 pub u16_at-requires-then-kind-eq-RESTORE_TRANSPARENT : goal.u16_at-requires-then-kind-eq-RESTORE_TRANSPARENT
 unfolding size_of
@@ -24,7 +24,7 @@ u16_at-requires-then-kind-eq-RESTORE_TRANSPARENT c =
 pub returns-then-kind-eq-RESTORE_TRANSPARENT : goal.returns-then-kind-eq-RESTORE_TRANSPARENT
 unfolding back_of
 returns-then-kind-eq-RESTORE_TRANSPARENT c =
-    record { by_index = λ i. simp (ne_eqb _ _ c.if-kind-eq-RESTORE.false, eq-eqb _ _ c.if-kind-eq-RESTORE_TRANSPARENT.true, ← c.u16_at-then-kind-eq-RESTORE_TRANSPARENT.ensures.value); by_index_2 = λ n. tt }
+    record { meaning = λ i. simp (ne_eqb _ _ c.if-kind-eq-RESTORE.false, eq-eqb _ _ c.if-kind-eq-RESTORE_TRANSPARENT.true, ← c.u16_at-then-kind-eq-RESTORE_TRANSPARENT.ensures.value); within = λ n. tt }
 
 pub u16_at-number-requires : goal.u16_at-number-requires
 unfolding size_of
@@ -39,9 +39,9 @@ u32_at-n-requires c =
 pub returns-then-kind-eq-MAYBE_RESTORE : goal.returns-then-kind-eq-MAYBE_RESTORE
 unfolding back_of
 returns-then-kind-eq-MAYBE_RESTORE c =
-    record { by_index = λ i. simp (ne_eqb _ _ c.if-kind-eq-RESTORE.false, ne_eqb _ _ c.if-kind-eq-RESTORE_TRANSPARENT.false, eq-eqb _ _ c.if-kind-eq-MAYBE_RESTORE.true, ← c.u16_at-number.ensures.value, ← c.u32_at-n.ensures); by_index_2 = λ n. tt }
+    record { meaning = λ i. simp (ne_eqb _ _ c.if-kind-eq-RESTORE.false, ne_eqb _ _ c.if-kind-eq-RESTORE_TRANSPARENT.false, eq-eqb _ _ c.if-kind-eq-MAYBE_RESTORE.true, ← c.u16_at-number.ensures.value, ← c.u32_at-n.ensures); within = λ n. tt }
 
 pub returns : goal.returns
 unfolding back_of
 returns c =
-    record { by_index = λ i. simp (ne_eqb _ _ c.if-kind-eq-RESTORE.false, ne_eqb _ _ c.if-kind-eq-RESTORE_TRANSPARENT.false, ne_eqb _ _ c.if-kind-eq-MAYBE_RESTORE.false) (c.ghosts.ensures.by_index i); by_index_2 = c.ghosts.ensures.by_index_2 }
+    record { meaning = λ i. simp (ne_eqb _ _ c.if-kind-eq-RESTORE.false, ne_eqb _ _ c.if-kind-eq-RESTORE_TRANSPARENT.false, ne_eqb _ _ c.if-kind-eq-MAYBE_RESTORE.false) (c.ghosts.ensures.meaning i); within = c.ghosts.ensures.within }

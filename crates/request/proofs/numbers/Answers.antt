@@ -19,7 +19,7 @@ u32_at-rest-requires c =
 pub returns-then-kind-eq-PAIR : goal.returns-then-kind-eq-PAIR
 unfolding numbers_of
 returns-then-kind-eq-PAIR c =
-    record { by_index = λ i. simp (eq-eqb _ _ c.if-kind-eq-PAIR.true, ← c.u32_at-first.ensures, ← c.u32_at-rest.ensures); by_index_2 = λ n. tt }
+    record { meaning = λ i. simp (eq-eqb _ _ c.if-kind-eq-PAIR.true, ← c.u32_at-first.ensures, ← c.u32_at-rest.ensures); within = λ n. tt }
 
 pub u32_at-n-requires : goal.u32_at-n-requires
 unfolding size_of
@@ -39,7 +39,7 @@ u32_at-end-requires c =
 pub returns-then-kind-eq-SUBSTR : goal.returns-then-kind-eq-SUBSTR
 unfolding numbers_of
 returns-then-kind-eq-SUBSTR c =
-    record { by_index = λ i. simp (ne_eqb _ _ c.if-kind-eq-PAIR.false, eq-eqb _ _ c.if-kind-eq-SUBSTR.true, ← c.u32_at-n.ensures, ← c.u32_at-start.ensures, ← c.u32_at-end.ensures); by_index_2 = λ n. tt }
+    record { meaning = λ i. simp (ne_eqb _ _ c.if-kind-eq-PAIR.false, eq-eqb _ _ c.if-kind-eq-SUBSTR.true, ← c.u32_at-n.ensures, ← c.u32_at-start.ensures, ← c.u32_at-end.ensures); within = λ n. tt }
 
 pub u32_at-requires : goal.u32_at-requires
 unfolding size_of
@@ -49,14 +49,14 @@ u32_at-requires c =
 pub returns-then-kind-eq-SMALL_NUMBER : goal.returns-then-kind-eq-SMALL_NUMBER
 unfolding numbers_of
 returns-then-kind-eq-SMALL_NUMBER c =
-    record { by_index = λ i. simp (ne_eqb _ _ c.if-kind-eq-PAIR.false, ne_eqb _ _ c.if-kind-eq-SUBSTR.false, eq-eqb _ _ c.if-kind-eq-SMALL_NUMBER.true, ← c.u32_at.ensures); by_index_2 = λ n. tt }
+    record { meaning = λ i. simp (ne_eqb _ _ c.if-kind-eq-PAIR.false, ne_eqb _ _ c.if-kind-eq-SUBSTR.false, eq-eqb _ _ c.if-kind-eq-SMALL_NUMBER.true, ← c.u32_at.ensures); within = λ n. tt }
 
 pub returns-then-kind-eq-CHECKPOINT : goal.returns-then-kind-eq-CHECKPOINT
 unfolding numbers_of
 returns-then-kind-eq-CHECKPOINT c =
-    record { by_index = λ i. simp (ne_eqb _ _ c.if-kind-eq-PAIR.false, ne_eqb _ _ c.if-kind-eq-SUBSTR.false, ne_eqb _ _ c.if-kind-eq-SMALL_NUMBER.false, eq-eqb _ _ c.if-kind-eq-CHECKPOINT.true); by_index_2 = λ n. tt }
+    record { meaning = λ i. simp (ne_eqb _ _ c.if-kind-eq-PAIR.false, ne_eqb _ _ c.if-kind-eq-SUBSTR.false, ne_eqb _ _ c.if-kind-eq-SMALL_NUMBER.false, eq-eqb _ _ c.if-kind-eq-CHECKPOINT.true); within = λ n. tt }
 
 pub returns : goal.returns
 unfolding numbers_of
 returns c =
-    record { by_index = λ i. simp (ne_eqb _ _ c.if-kind-eq-PAIR.false, ne_eqb _ _ c.if-kind-eq-SUBSTR.false, ne_eqb _ _ c.if-kind-eq-SMALL_NUMBER.false, ne_eqb _ _ c.if-kind-eq-CHECKPOINT.false) (c.going_back.ensures.by_index i); by_index_2 = c.going_back.ensures.by_index_2 }
+    record { meaning = λ i. simp (ne_eqb _ _ c.if-kind-eq-PAIR.false, ne_eqb _ _ c.if-kind-eq-SUBSTR.false, ne_eqb _ _ c.if-kind-eq-SMALL_NUMBER.false, ne_eqb _ _ c.if-kind-eq-CHECKPOINT.false) (c.going_back.ensures.meaning i); within = c.going_back.ensures.within }

@@ -12,7 +12,7 @@ use Rattle.request.proofs.read.Goals as goal
 pub returns-in_default : goal.returns-in_default
 returns-in_default c =
     let e = sym c.frame_at-frame.ensures ∙ c.in_default.is in
-    record { request_value = simp e; size_value = simp e; within = tt }
+    record { meaning = simp e; size = simp e; within = tt }
 
 pub overflow_add-end : goal.overflow_add-end
 overflow_add-end c =
@@ -32,4 +32,4 @@ request_of-requires c =
 pub returns : goal.returns
 returns c =
     let is-frame-here : frame_of c.args.rest.now ≡ Whole c.in-Whole.kind c.in-Whole.len = sym c.frame_at-frame.ensures ∙ c.in-Whole.is in
-    record { request_value = simp (is-frame-here) c.request_of.ensures.result_value; size_value = simp (is-frame-here); within = c.request_of.ensures.within }
+    record { meaning = simp (is-frame-here) c.request_of.ensures.meaning; size = simp (is-frame-here); within = c.request_of.ensures.within }

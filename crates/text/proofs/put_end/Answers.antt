@@ -10,4 +10,4 @@ unfolding end_text
 returns c =
     let a = c.args in
     let f = put_then a.out.now c.put-w1.new.out c.put_number-w2.new.out _ _ a.w c.put-w1.result c.put_number-w2.result c.put-w1.ensures c.put_number-w2.ensures.put in
-    record { put = put_then a.out.now c.put_number-w2.new.out c.put_number.new.out _ _ a.w c.put_number-w2.result c.put_number.result f c.put_number.ensures.put; upper_bound = omega (arith, c.put-w1.ensures.end, c.put_number-w2.ensures.upper_bound, c.put_number.ensures.upper_bound) }
+    record { put = put_then a.out.now c.put_number-w2.new.out c.put_number.new.out _ _ a.w c.put_number-w2.result c.put_number.result f c.put_number.ensures.put; bound = omega (arith, c.put-w1.ensures.end, c.put_number-w2.ensures.bound, c.put_number.ensures.bound) }

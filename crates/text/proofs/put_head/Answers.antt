@@ -6,4 +6,4 @@ use Rattle.text.proofs.put_head.Goals as goal
 pub returns : goal.returns
 unfolding head_text
 returns c =
-    record { put = c.put.ensures; value = c.put.ensures.end }
+    record { put = c.put.ensures; end = c.put.ensures.end }

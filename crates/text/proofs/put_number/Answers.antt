@@ -29,4 +29,4 @@ returns c =
     let h : c.put-e.result < length c.put-e.new.out = (let few-here : c.decimal-k.result ≤ 20 = few_digits c.decimal-k.result c.args.n (omega arith) c.decimal-k.ensures.len in
     omega (arith, few-here, c.decimal-k.ensures.in_bounds.1, c.put-e.ensures.end)) in
     let q = put_as a.out.now c.put-e.new.out _ _ a.w c.put-e.result c.put-e.ensures (c.decimal-k.ensures.digits ∙ dec-is c.decimal-k.result a.n c.decimal-k.ensures.len (few-here)) in
-    record { put = put_byte a.out.now c.put-e.new.out _ a.w c.put-e.result a.last q h; upper_bound = omega (arith, few-here, c.decimal-k.ensures.in_bounds.1, c.put-e.ensures.end) }
+    record { put = put_byte a.out.now c.put-e.new.out _ a.w c.put-e.result a.last q h; bound = omega (arith, few-here, c.decimal-k.ensures.in_bounds.1, c.put-e.ensures.end) }

@@ -15,4 +15,4 @@ returns c =
     let q4 = put_then o c.put_shown-w3.new.out c.put_number-w4.new.out _ _ a.w c.put_shown-w3.result c.put_number-w4.result q3 c.put_number-w4.ensures.put in
     let q5 = put_then o c.put_number-w4.new.out c.put_number-w5.new.out _ _ a.w c.put_number-w4.result c.put_number-w5.result q4 c.put_number-w5.ensures.put in
     let q6 = put_then o c.put_number-w5.new.out c.put_number.new.out _ _ a.w c.put_number-w5.result c.put_number.result q5 c.put_number.ensures.put in
-    record { put = q6; upper_bound = omega (arith, c.put_number-w1.ensures.upper_bound, c.put_number-w2.ensures.upper_bound, c.put_shown-w3.ensures.upper_bound, c.put_number-w4.ensures.upper_bound, c.put_number-w5.ensures.upper_bound, c.put_number.ensures.upper_bound) }
+    record { put = q6; bound = omega (arith, c.put_number-w1.ensures.bound, c.put_number-w2.ensures.bound, c.put_shown-w3.ensures.bound, c.put_number-w4.ensures.bound, c.put_number-w5.ensures.bound, c.put_number.ensures.bound) }

@@ -9,9 +9,9 @@ use Rattle.text.proofs.put_shown.Goals as goal
 pub returns-in-Node : goal.returns-in-Node
 returns-in-Node c =
     let a = c.args in
-    record { put = put_as a.out.now c.put_number.new.out _ _ a.w c.put_number.result c.put_number.ensures.put (ap shown_text (sym c.in-Node.is)); upper_bound = c.put_number.ensures.upper_bound }
+    record { put = put_as a.out.now c.put_number.new.out _ _ a.w c.put_number.result c.put_number.ensures.put (ap shown_text (sym c.in-Node.is)); bound = c.put_number.ensures.bound }
 
 pub returns-in-Nothing : goal.returns-in-Nothing
 returns-in-Nothing c =
     let a = c.args in
-    record { put = put_as a.out.now c.put.new.out _ _ a.w c.put.result c.put.ensures (ap shown_text (sym c.in-Nothing.is)); upper_bound = omega (arith, c.put.ensures.end) }
+    record { put = put_as a.out.now c.put.new.out _ _ a.w c.put.result c.put.ensures (ap shown_text (sym c.in-Nothing.is)); bound = omega (arith, c.put.ensures.end) }

@@ -29,7 +29,7 @@ pub returns-in-Range : goal.returns-in-Range
 returns-in-Range c =
     let range-in-here : (c.in-Range.start ≤ c.in-Range.end) × (c.in-Range.end ≤ length c.args.bytes.now) = part_says _ _ _ _ _ _ (sym c.part_of-part.ensures ∙ ap atom_paper c.in-Range.is) in
     let e = sym c.part_of-part.ensures ∙ ap atom_paper c.in-Range.is in
-    record { result_value = simp (e, part_slice _ _ c.args.bytes.now (range-in-here).0); ref_ptr_value = simp e; ref_ptr_value_2 = simp e (omega arith) }
+    record { part = simp (e, part_slice _ _ c.args.bytes.now (range-in-here).0); block = simp e; offset = simp e (omega arith) }
 
 pub overflow_sub-from : goal.overflow_sub-from
 overflow_sub-from c =
@@ -49,9 +49,9 @@ slice_bounds-result-count-in-Value c =
 pub returns-in-Value : goal.returns-in-Value
 returns-in-Value c =
     let e = sym c.part_of-part.ensures ∙ ap atom_paper c.in-Value.is in
-    record { result_value = simp (e, part_tail, c.len_for_value-from.ensures); ref_ptr_value = simp e; ref_ptr_value_2 = simp (e, c.len_for_value-from.ensures) (omega arith) }
+    record { part = simp (e, part_tail, c.len_for_value-from.ensures); block = simp e; offset = simp (e, c.len_for_value-from.ensures) (omega arith) }
 
 pub returns-in-Refused : goal.returns-in-Refused
 returns-in-Refused c =
     let e = sym c.part_of-part.ensures ∙ ap atom_paper c.in-Refused.is in
-    record { result_value = simp e; ref_ptr_value = simp e; ref_ptr_value_2 = simp e (omega arith) }
+    record { part = simp e; block = simp e; offset = simp e (omega arith) }

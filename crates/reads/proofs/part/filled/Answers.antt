@@ -15,15 +15,15 @@ put_be-requires c =
 pub returns-in-Range : goal.returns-in-Range
 returns-in-Range c =
     let e = sym c.part_of-part.ensures ∙ ap atom_paper c.in-Range.is in
-    record { result_value = simp e; scratch_after = simp e }
+    record { answer = simp e; scratch = simp e }
 
 pub returns-in-Value : goal.returns-in-Value
 returns-in-Value c =
     let four-here : length c.args.scratch.now ≡ 4 = (part_says _ _ _ _ _ _ (sym c.part_of-part.ensures ∙ ap atom_paper c.in-Value.is)).1 in
     let e = sym c.part_of-part.ensures ∙ ap atom_paper c.in-Value.is in
-    record { result_value = simp e; scratch_after = c.put_be.ensures ∙ whole_scratch _ c.args.scratch.now (four-here) ∙ simp e }
+    record { answer = simp e; scratch = c.put_be.ensures ∙ whole_scratch _ c.args.scratch.now (four-here) ∙ simp e }
 
 pub returns-in-Refused : goal.returns-in-Refused
 returns-in-Refused c =
     let e = sym c.part_of-part.ensures ∙ ap atom_paper c.in-Refused.is in
-    record { result_value = simp e; scratch_after = simp e }
+    record { answer = simp e; scratch = simp e }

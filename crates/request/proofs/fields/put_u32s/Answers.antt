@@ -49,4 +49,4 @@ pub returns : goal.returns
 returns c =
     let v = c.loop-i.invariant in
     let e : c.loop-i.i ≡ length c.args.s.now / 4 = omega (arith, v) in
-    record { out_after = rw e at v.3; prefix_len = (omega (arith, v), sym (length-take-le (length c.args.s.now / 4) c.loop-i.out (omega (arith, v)))) }
+    record { numbers = rw e at v.3; prefix = (omega (arith, v), sym (length-take-le (length c.args.s.now / 4) c.loop-i.out (omega (arith, v)))) }

@@ -14,4 +14,4 @@ overflow_add-result c =
 
 pub returns : goal.returns
 returns c =
-    record { value = simp (c.wide-2.ensures, c.wide.ensures); upper_bound = omega (arith, c.wide-2.ensures, c.wide.ensures, c.type_inv.s c.args.i, c.type_inv.s (c.args.i + 1)) }
+    record { value = simp (c.wide-2.ensures, c.wide.ensures); bound = omega (arith, c.wide-2.ensures, c.wide.ensures, c.type_inv.s c.args.i, c.type_inv.s (c.args.i + 1)) }
