@@ -1,5 +1,6 @@
 // Rows as text, put into a lent buffer from an index on (document 01, "The request program").
 #![tactic(auto)]
+
 ghost use Rattle.std.specs.Prelude.{◌≡◌, ◌+◌, ◌≤◌, length};
 ghost use Rattle.text.specs.Text.{Put, row_text, shown_text, number_text, end_text, head_text, long_text};
 
