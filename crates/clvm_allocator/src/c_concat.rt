@@ -18,8 +18,8 @@ pub extern "C" fn clvm_new_concat(
     new_size: usize,
     nodes: &[u32],
 ) -> CAnswer
-    ensures { given result a.new (store_in bytes.exit starts.exit ends.exit)
-        ≡ crossed answer_c (new_concat (record_in a.entry) new_size nodes.now (store_in bytes.entry starts.entry ends.entry)) }
+    ensures { given result a.new (store_in bytes.new starts.new ends.new)
+        ≡ crossed answer_c (new_concat (record_in a.old) new_size nodes.now (store_in bytes.old starts.old ends.old)) }
 {
     let made = concat::new_concat(words::record(a), bytes, starts, ends, new_size, nodes);
     let answer = made.answer;

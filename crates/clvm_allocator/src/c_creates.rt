@@ -20,8 +20,8 @@ pub extern "C" fn clvm_new_atom(
     ends: &mut [u32],
     v: &[u8],
 ) -> CAnswer
-    ensures { given result a.new (store_in bytes.exit starts.exit ends.exit)
-        ≡ crossed answer_c (new_atom (record_in a.entry) v.now (store_in bytes.entry starts.entry ends.entry)) }
+    ensures { given result a.new (store_in bytes.new starts.new ends.new)
+        ≡ crossed answer_c (new_atom (record_in a.old) v.now (store_in bytes.old starts.old ends.old)) }
 {
     let answer = words::new_atom(a, bytes, starts, ends, v);
     crossing::of_answer(answer)
@@ -29,7 +29,7 @@ pub extern "C" fn clvm_new_atom(
 
 #[unsafe(no_mangle)]
 pub extern "C" fn clvm_new_small_number(a: &mut RecordWords, v: u32) -> CAnswer
-    ensures { given result a.new no_lists ≡ crossed answer_c (new_small_number (record_in a.entry) v) }
+    ensures { given result a.new no_lists ≡ crossed answer_c (new_small_number (record_in a.old) v) }
 {
     let made = atom::new_small_number(words::record(a), v);
     let answer = made.answer;
@@ -46,8 +46,8 @@ pub extern "C" fn clvm_new_u64(
     ends: &mut [u32],
     x: u64,
 ) -> CAnswer
-    ensures { given result a.new (store_in bytes.exit starts.exit ends.exit)
-        ≡ crossed answer_c (new_u64 (record_in a.entry) x (store_in bytes.entry starts.entry ends.entry)) }
+    ensures { given result a.new (store_in bytes.new starts.new ends.new)
+        ≡ crossed answer_c (new_u64 (record_in a.old) x (store_in bytes.old starts.old ends.old)) }
 {
     let mut buf = [0u8; 9];
     let n = integer::write_u64(&mut buf, x);
@@ -62,8 +62,8 @@ pub extern "C" fn clvm_new_i64(
     ends: &mut [u32],
     x: i64,
 ) -> CAnswer
-    ensures { given result a.new (store_in bytes.exit starts.exit ends.exit)
-        ≡ crossed answer_c (new_i64 (record_in a.entry) x (store_in bytes.entry starts.entry ends.entry)) }
+    ensures { given result a.new (store_in bytes.new starts.new ends.new)
+        ≡ crossed answer_c (new_i64 (record_in a.old) x (store_in bytes.old starts.old ends.old)) }
 {
     let mut buf = [0u8; 9];
     let n = integer::write_i64(&mut buf, x);
@@ -78,8 +78,8 @@ pub extern "C" fn clvm_new_pair(
     first: u32,
     rest: u32,
 ) -> CAnswer
-    ensures { given result a.new (pair_store_in firsts.exit rests.exit)
-        ≡ crossed answer_c (new_pair (record_in a.entry) first rest (pair_store_in firsts.entry rests.entry)) }
+    ensures { given result a.new (pair_store_in firsts.new rests.new)
+        ≡ crossed answer_c (new_pair (record_in a.old) first rest (pair_store_in firsts.old rests.old)) }
 {
     let made = pair::new_pair(words::record(a), firsts, rests, first, rest);
     let answer = made.answer;
@@ -89,7 +89,7 @@ pub extern "C" fn clvm_new_pair(
 
 #[unsafe(no_mangle)]
 pub extern "C" fn clvm_add_ghost_pair(a: &mut RecordWords, amount: usize) -> CAnswer
-    ensures { given result a.new no_lists ≡ crossed done_c (add_ghost_pair (record_in a.entry) amount) }
+    ensures { given result a.new no_lists ≡ crossed done_c (add_ghost_pair (record_in a.old) amount) }
 {
     let changed = ghosts::add_ghost_pair(words::record(a), amount);
     let verdict = changed.verdict;
@@ -99,7 +99,7 @@ pub extern "C" fn clvm_add_ghost_pair(a: &mut RecordWords, amount: usize) -> CAn
 
 #[unsafe(no_mangle)]
 pub extern "C" fn clvm_remove_ghost_pair(a: &mut RecordWords, amount: usize) -> CAnswer
-    ensures { given result a.new no_lists ≡ crossed done_c (remove_ghost_pair (record_in a.entry) amount) }
+    ensures { given result a.new no_lists ≡ crossed done_c (remove_ghost_pair (record_in a.old) amount) }
 {
     let changed = ghosts::remove_ghost_pair(words::record(a), amount);
     let verdict = changed.verdict;
@@ -109,7 +109,7 @@ pub extern "C" fn clvm_remove_ghost_pair(a: &mut RecordWords, amount: usize) -> 
 
 #[unsafe(no_mangle)]
 pub extern "C" fn clvm_add_ghost_atom(a: &mut RecordWords, amount: usize) -> CAnswer
-    ensures { given result a.new no_lists ≡ crossed done_c (add_ghost_atom (record_in a.entry) amount) }
+    ensures { given result a.new no_lists ≡ crossed done_c (add_ghost_atom (record_in a.old) amount) }
 {
     let changed = ghosts::add_ghost_atom(words::record(a), amount);
     let verdict = changed.verdict;
@@ -127,8 +127,8 @@ pub extern "C" fn clvm_new_substr(
     start: u32,
     end: u32,
 ) -> CAnswer
-    ensures { given result a.new (store_in bytes.exit starts.exit ends.exit)
-        ≡ crossed answer_c (new_substr (record_in a.entry) n start end (store_in bytes.entry starts.entry ends.entry)) }
+    ensures { given result a.new (store_in bytes.new starts.new ends.new)
+        ≡ crossed answer_c (new_substr (record_in a.old) n start end (store_in bytes.old starts.old ends.old)) }
 {
     let made = substr::new_substr(words::record(a), bytes, starts, ends, n, start, end);
     let answer = made.answer;

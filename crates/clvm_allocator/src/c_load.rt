@@ -19,9 +19,9 @@ pub extern "C" fn clvm_load(
     rests: &mut [u32],
     file: &[u8],
 ) -> CLoaded
-    ensures { given result a.new (lists_in bytes.exit starts.exit ends.exit firsts.exit rests.exit)
-        ≡ read_c (load_rule file.now (record_in a.entry)
-        (lists_in bytes.entry starts.entry ends.entry firsts.entry rests.entry)) }
+    ensures { given result a.new (lists_in bytes.new starts.new ends.new firsts.new rests.new)
+        ≡ read_c (load_rule file.now (record_in a.old)
+        (lists_in bytes.old starts.old ends.old firsts.old rests.old)) }
 {
     let loaded = load::load(words::record(a), bytes, starts, ends, firsts, rests, file);
     let answer = loaded.answer;

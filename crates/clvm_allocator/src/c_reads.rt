@@ -23,7 +23,7 @@ pub extern "C" fn clvm_node(
     n: u32,
 ) -> CVisited
     ensures { result
-        ≡ visited_c (node_rule (record_in a.entry) (atom_slots_in starts.entry ends.entry) (pair_slots_in firsts.entry rests.entry) n) }
+        ≡ visited_c (node_rule (record_in a.now) (atom_slots_in starts.now ends.now) (pair_slots_in firsts.now rests.now) n) }
 {
     let found = reads::node(words::record(a), starts, ends, firsts, rests, n);
     crossing::of_visitor(found)
@@ -31,7 +31,7 @@ pub extern "C" fn clvm_node(
 
 #[unsafe(no_mangle)]
 pub extern "C" fn clvm_sexp(a: &RecordWords, firsts: &[u32], rests: &[u32], n: u32) -> CChildren
-    ensures { result ≡ children_c (sexp_rule (record_in a.entry) (pair_slots_in firsts.entry rests.entry) n) }
+    ensures { result ≡ children_c (sexp_rule (record_in a.now) (pair_slots_in firsts.now rests.now) n) }
 {
     let found = reads::sexp(words::record(a), firsts, rests, n);
     crossing::of_sexp(found)
@@ -40,7 +40,7 @@ pub extern "C" fn clvm_sexp(a: &RecordWords, firsts: &[u32], rests: &[u32], n: u
 // An atom has no next, as it is no pair: to C that is sexp.
 #[unsafe(no_mangle)]
 pub extern "C" fn clvm_next(a: &RecordWords, firsts: &[u32], rests: &[u32], n: u32) -> CChildren
-    ensures { result ≡ children_c (sexp_rule (record_in a.entry) (pair_slots_in firsts.entry rests.entry) n) }
+    ensures { result ≡ children_c (sexp_rule (record_in a.now) (pair_slots_in firsts.now rests.now) n) }
 {
     clvm_sexp(a, firsts, rests, n)
 }
@@ -55,9 +55,9 @@ pub extern "C" fn clvm_atom(
     scratch: &mut [u8],
     n: u32,
 ) -> CPart
-    ensures value { result ≡ part_c (atom_lent (record_in a.entry) bytes.entry starts.entry ends.entry scratch.entry n) }
-    ensures scratch_after { scratch.new
-        ≡ scratch_after (atom_lent (record_in a.entry) bytes.entry starts.entry ends.entry scratch.entry n) scratch.old }
+    ensures answer { result ≡ part_c (atom_lent (record_in a.now) bytes.now starts.now ends.now scratch.old n) }
+    ensures scratch { scratch.new
+        ≡ scratch_after (atom_lent (record_in a.now) bytes.now starts.now ends.now scratch.old n) scratch.old }
 {
     let found = part::filled(words::record(a), bytes, starts, ends, scratch, n);
     match found {
@@ -72,7 +72,7 @@ pub extern "C" fn clvm_atom(
 
 #[unsafe(no_mangle)]
 pub extern "C" fn clvm_atom_len(a: &RecordWords, starts: &[u32], ends: &[u32], n: u32) -> CNumber
-    ensures { result ≡ number_c (atom_len (record_in a.entry) (atom_slots_in starts.entry ends.entry) n) }
+    ensures { result ≡ number_c (atom_len (record_in a.now) (atom_slots_in starts.now ends.now) n) }
 {
     let found = reads::atom_len(words::record(a), starts, ends, n);
     crossing::of_number(found)
@@ -87,7 +87,7 @@ pub extern "C" fn clvm_small_number(
     n: u32,
 ) -> COption
     ensures { result
-        ≡ option_c (small_number (record_in a.entry) bytes.now (atom_slots_in starts.entry ends.entry) n) }
+        ≡ option_c (small_number (record_in a.now) bytes.now (atom_slots_in starts.now ends.now) n) }
 {
     let found = reads::small_number(words::record(a), bytes, starts, ends, n);
     crossing::of_small(found)
@@ -103,7 +103,7 @@ pub extern "C" fn clvm_atom_eq(
     rhs: u32,
 ) -> CNumber
     ensures { result
-        ≡ number_c (says_of bit (atom_eq (record_in a.entry) bytes.now (atom_slots_in starts.entry ends.entry) lhs rhs)) }
+        ≡ number_c (says_of bit (atom_eq (record_in a.now) bytes.now (atom_slots_in starts.now ends.now) lhs rhs)) }
 {
     let found = eq::atom_eq(words::record(a), bytes, starts, ends, lhs, rhs);
     crossing::of_truth(found)
@@ -118,7 +118,7 @@ pub extern "C" fn clvm_checkpoint_node_status(
     n: u32,
 ) -> CStatus
     ensures { result
-        ≡ status_c (node_status (counts_in k.entry) (record_in a.entry) (atom_slots_in starts.entry ends.entry) n) }
+        ≡ status_c (node_status (counts_in k.now) (record_in a.now) (atom_slots_in starts.now ends.now) n) }
 {
     let found = reads::checkpoint_node_status(words::record(a), starts, ends, words::counts(k), n);
     crossing::of_status(found)

@@ -20,7 +20,7 @@ pub extern "C" fn clvm_restore_checkpoint(
     k: &CheckpointWords,
 ) -> CAnswer
     ensures { given result a.new no_lists
-        ≡ crossed done_c (restore_plain (plain_in k.entry) (record_in a.entry) (slots_in starts.entry ends.entry firsts.entry rests.entry)) }
+        ≡ crossed done_c (restore_plain (plain_in k.now) (record_in a.old) (slots_in starts.now ends.now firsts.now rests.now)) }
 {
     let changed = restores::restore_checkpoint(
         words::record(a),
@@ -45,8 +45,8 @@ pub extern "C" fn clvm_restore_transparent_checkpoint(
     k: &CountsWords,
 ) -> CAnswer
     ensures { given result a.new no_lists
-        ≡ crossed done_c (restore_transparent (counts_in k.entry) (record_in a.entry)
-        (slots_in starts.entry ends.entry firsts.entry rests.entry)) }
+        ≡ crossed done_c (restore_transparent (counts_in k.now) (record_in a.old)
+        (slots_in starts.now ends.now firsts.now rests.now)) }
 {
     let changed = restores::restore_transparent_checkpoint(
         words::record(a),
@@ -72,9 +72,9 @@ pub extern "C" fn clvm_maybe_restore_with_node(
     k: &CountsWords,
     n: u32,
 ) -> CRestored
-    ensures { given result a.new (store_in bytes.exit starts.exit ends.exit)
-        ≡ crossed restored_c (maybe_restore (counts_in k.entry) n (record_in a.entry) (store_in bytes.entry starts.entry ends.entry)
-        (pair_store_in firsts.entry rests.entry)) }
+    ensures { given result a.new (store_in bytes.new starts.new ends.new)
+        ≡ crossed restored_c (maybe_restore (counts_in k.now) n (record_in a.old) (store_in bytes.old starts.old ends.old)
+        (pair_store_in firsts.now rests.now)) }
 {
     let restored = restores::maybe_restore_with_node(
         words::record(a),

@@ -22,8 +22,8 @@ pub extern "C" fn clvm_save(
     file: &mut [u8],
 ) -> CNumber
     ensures { given result file.new no_lists
-        ≡ written_c (save_rule (record_in a.entry)
-        (lists_in bytes.entry starts.entry ends.entry firsts.entry rests.entry) n file.old) }
+        ≡ written_c (save_rule (record_in a.now)
+        (lists_in bytes.now starts.now ends.now firsts.now rests.now) n file.old) }
 {
     let found = save::save(
         words::record(a),

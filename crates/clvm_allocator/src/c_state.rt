@@ -25,7 +25,7 @@ pub extern "C" fn clvm_new_limited(a: &mut RecordWords, limit: usize) -> CAnswer
 
 #[unsafe(no_mangle)]
 pub extern "C" fn clvm_atom_count(a: &RecordWords) -> CNumber
-    ensures { result ≡ number_c (atom_count (record_in a.entry)) }
+    ensures { result ≡ number_c (atom_count (record_in a.now)) }
 {
     let found = state::atom_count(words::record(a));
     crossing::of_number(found)
@@ -33,7 +33,7 @@ pub extern "C" fn clvm_atom_count(a: &RecordWords) -> CNumber
 
 #[unsafe(no_mangle)]
 pub extern "C" fn clvm_allocated_atom_count(a: &RecordWords) -> CNumber
-    ensures { result ≡ number_c (allocated_atom_count (record_in a.entry)) }
+    ensures { result ≡ number_c (allocated_atom_count (record_in a.now)) }
 {
     let found = state::allocated_atom_count(words::record(a));
     crossing::of_number(found)
@@ -41,7 +41,7 @@ pub extern "C" fn clvm_allocated_atom_count(a: &RecordWords) -> CNumber
 
 #[unsafe(no_mangle)]
 pub extern "C" fn clvm_pair_count(a: &RecordWords) -> CNumber
-    ensures { result ≡ number_c (pair_count (record_in a.entry)) }
+    ensures { result ≡ number_c (pair_count (record_in a.now)) }
 {
     let found = state::pair_count(words::record(a));
     crossing::of_number(found)
@@ -49,7 +49,7 @@ pub extern "C" fn clvm_pair_count(a: &RecordWords) -> CNumber
 
 #[unsafe(no_mangle)]
 pub extern "C" fn clvm_allocated_pair_count(a: &RecordWords) -> CNumber
-    ensures { result ≡ number_c (allocated_pair_count (record_in a.entry)) }
+    ensures { result ≡ number_c (allocated_pair_count (record_in a.now)) }
 {
     let found = state::allocated_pair_count(words::record(a));
     crossing::of_number(found)
@@ -57,7 +57,7 @@ pub extern "C" fn clvm_allocated_pair_count(a: &RecordWords) -> CNumber
 
 #[unsafe(no_mangle)]
 pub extern "C" fn clvm_heap_size(a: &RecordWords) -> CNumber
-    ensures { result ≡ number_c (heap_size (record_in a.entry)) }
+    ensures { result ≡ number_c (heap_size (record_in a.now)) }
 {
     let found = state::heap_size(words::record(a));
     crossing::of_number(found)
@@ -65,7 +65,7 @@ pub extern "C" fn clvm_heap_size(a: &RecordWords) -> CNumber
 
 #[unsafe(no_mangle)]
 pub extern "C" fn clvm_allocated_heap_size(a: &RecordWords) -> CNumber
-    ensures { result ≡ number_c (allocated_heap_size (record_in a.entry)) }
+    ensures { result ≡ number_c (allocated_heap_size (record_in a.now)) }
 {
     let found = state::allocated_heap_size(words::record(a));
     crossing::of_number(found)
@@ -75,7 +75,7 @@ pub extern "C" fn clvm_allocated_heap_size(a: &RecordWords) -> CNumber
 #[unsafe(no_mangle)]
 pub extern "C" fn clvm_checkpoint_of(a: &RecordWords, k: &mut CheckpointWords) -> CAnswer
     ensures { given result k.new no_lists
-        ≡ taken_c plain_words k.old (checkpoint_rule (record_in a.entry)) }
+        ≡ taken_c plain_words k.old (checkpoint_rule (record_in a.now)) }
 {
     let found = state::checkpoint(words::record(a));
     match found {
@@ -90,7 +90,7 @@ pub extern "C" fn clvm_checkpoint_of(a: &RecordWords, k: &mut CheckpointWords) -
 #[unsafe(no_mangle)]
 pub extern "C" fn clvm_transparent_checkpoint(a: &RecordWords, k: &mut CountsWords) -> CAnswer
     ensures { given result k.new no_lists
-        ≡ taken_c counts_words k.old (transparent_checkpoint (record_in a.entry)) }
+        ≡ taken_c counts_words k.old (transparent_checkpoint (record_in a.now)) }
 {
     let found = state::transparent_checkpoint(words::record(a));
     match found {
@@ -113,7 +113,7 @@ pub extern "C" fn clvm_well_formed(
     rests: &[u32],
 ) -> u32
     ensures { result
-        ≡ bit (well_formed (record_in a.entry) (lists_in bytes.entry starts.entry ends.entry firsts.entry rests.entry)) }
+        ≡ bit (well_formed (record_in a.now) (lists_in bytes.now starts.now ends.now firsts.now rests.now)) }
 {
     let yes = state::well_formed(words::record(a), bytes, starts, ends, firsts, rests);
     if yes { 1 } else { 0 }

@@ -13,8 +13,8 @@ use rules::{Allocator, Atom};
 // A small atom's bytes, through the helper that copies into the free tail: the last of the value's four.
 fn copy_small(bytes: &mut [u8], v: u32, at: usize) -> usize
     requires { (v < 67108864) × (at + len_for v ≤ length bytes.old) }
-    ensures bytes_after { bytes.new ≡ over bytes.old at (small_bytes v) }
-    ensures value { result ≡ at + len_for v }
+    ensures written { bytes.new ≡ over bytes.old at (small_bytes v) }
+    ensures end { result ≡ at + len_for v }
 {
     let mut buf = [0u8; 4];
     node::put_be(&mut buf, v as u64, 4);
@@ -46,11 +46,11 @@ fn copy_term(
     n: u32,
     at: usize,
 ) -> usize
-    requires atoms_within { AtomsWithin a starts ends × (a.used.bytes ≤ at) }
-    requires n_in_bounds { at + length (term_bytes bytes.old (atom_of a (atom_slots_in starts ends) n)) ≤ length bytes.old }
-    ensures bytes_after { bytes.new
-        ≡ over bytes.old at (term_bytes bytes.old (atom_of a (atom_slots_in starts.entry ends.entry) n)) }
-    ensures value { result ≡ at + length (term_bytes bytes.old (atom_of a (atom_slots_in starts.entry ends.entry) n)) }
+    requires atoms_within { AtomsWithin a starts.now ends.now × (a.used.bytes ≤ at) }
+    requires fits { at + length (term_bytes bytes.old (atom_of a (atom_slots_in starts.now ends.now) n)) ≤ length bytes.old }
+    ensures written { bytes.new
+        ≡ over bytes.old at (term_bytes bytes.old (atom_of a (atom_slots_in starts.now ends.now) n)) }
+    ensures end { result ≡ at + length (term_bytes bytes.old (atom_of a (atom_slots_in starts.now ends.now) n)) }
 {
     let found = arg::atom_of(a, starts, ends, n);
     match found {
@@ -65,10 +65,10 @@ fn copy_term(
 
 // All terms, one behind the other, from the end of the used bytes on.
 pub fn copy_terms(a: Allocator, bytes: &mut [u8], starts: &[u32], ends: &[u32], nodes: &[u32])
-    requires atoms_within { AtomsWithin a starts ends }
-    requires nodes_in_bounds { a.used.bytes + length (joined a (store_in bytes starts ends) nodes.now) ≤ length bytes.old }
+    requires atoms_within { AtomsWithin a starts.now ends.now }
+    requires fits { a.used.bytes + length (joined a (store_in bytes.old starts.now ends.now) nodes.now) ≤ length bytes.old }
     ensures { bytes.new
-        ≡ over bytes.old a.used.bytes (joined a (store_in bytes.entry starts.entry ends.entry) nodes.now) }
+        ≡ over bytes.old a.used.bytes (joined a (store_in bytes.old starts.now ends.now) nodes.now) }
 {
     let mut at = a.used.bytes;
     let mut i = 0;

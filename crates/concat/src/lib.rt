@@ -18,7 +18,7 @@ use state::{record, sound};
 
 // What is tested before any node is looked at. A sum past the largest usize is taken as that, which is past every limit.
 fn concat_tests(a: Allocator, bytes: &[u8], starts: &[u32], ends: &[u32], size: usize) -> Verdict
-    ensures { verdict_paper result ≡ concat_tests a size (store_in bytes.entry starts.entry ends.entry) }
+    ensures { verdict_paper result ≡ concat_tests a size (store_in bytes.now starts.now ends.now) }
 {
     if sound::bytes_sound(a, bytes.len(), starts.len(), ends.len()) {
         if sound::MOST <= sound::total(a.used.atoms, a.ghosts.atoms) {
@@ -49,8 +49,8 @@ fn concat_none(a: Allocator, size: usize) -> Made
 
 // Whether an atom has that many bytes.
 fn measure_one(a: Allocator, starts: &[u32], ends: &[u32], size: usize, n: u32) -> Verdict
-    requires { AtomsWithin a starts ends }
-    ensures { verdict_paper result ≡ one_term size (atom_of a (atom_slots_in starts.entry ends.entry) n) }
+    requires { AtomsWithin a starts.now ends.now }
+    ensures { verdict_paper result ≡ one_term size (atom_of a (atom_slots_in starts.now ends.now) n) }
 {
     let found = arg::atom_of(a, starts, ends, n);
     match found {
@@ -62,10 +62,10 @@ fn measure_one(a: Allocator, starts: &[u32], ends: &[u32], size: usize, n: u32) 
 
 // One atom joined is that atom, counted as if it had been allocated again.
 fn concat_one(a: Allocator, starts: &[u32], ends: &[u32], size: usize, n: u32) -> Made
-    requires atoms_within { AtomsWithin a starts ends }
-    requires atoms_bound { (a.ghosts.atoms < 62500000) × (a.ghosts.bytes + size ≤ 8589934590) }
-    ensures { (b : List ℕ) → made result (store b (atom_slots_in starts.entry ends.entry))
-        ≡ concat_put a size (n ∷ []) (store b (atom_slots_in starts.entry ends.entry)) }
+    requires atoms_within { AtomsWithin a starts.now ends.now }
+    requires counts { (a.ghosts.atoms < 62500000) × (a.ghosts.bytes + size ≤ 8589934590) }
+    ensures { (b : List ℕ) → made result (store b (atom_slots_in starts.now ends.now))
+        ≡ concat_put a size (n ∷ []) (store b (atom_slots_in starts.now ends.now)) }
 {
     let verdict = measure_one(a, starts, ends, size, n);
     match verdict {
@@ -87,10 +87,10 @@ fn put_joined(
     nodes: &[u32],
 ) -> Made
     requires tested { Tested a size (length bytes.old) (length starts.old) (length ends.old) }
-    requires ends_value { store_room a size (store_in bytes starts ends) ≡ true }
-    requires nodes_len { length (joined a (store_in bytes starts ends) nodes.now) ≡ size }
-    ensures { made result (store_in bytes.exit starts.exit ends.exit)
-        ≡ joined_put a size nodes.now (store_in bytes.entry starts.entry ends.entry) }
+    requires room { store_room a size (store_in bytes.old starts.old ends.old) ≡ true }
+    requires size { length (joined a (store_in bytes.old starts.old ends.old) nodes.now) ≡ size }
+    ensures { made result (store_in bytes.new starts.new ends.new)
+        ≡ joined_put a size nodes.now (store_in bytes.old starts.old ends.old) }
 {
     let at = a.used.bytes;
     let slot = a.used.atoms;
@@ -113,8 +113,8 @@ fn concat_all(
     nodes: &[u32],
 ) -> Made
     requires { Tested a size (length bytes.old) (length starts.old) (length ends.old) }
-    ensures { made result (store_in bytes.exit starts.exit ends.exit)
-        ≡ concat_all a size nodes.now (store_in bytes.entry starts.entry ends.entry) }
+    ensures { made result (store_in bytes.new starts.new ends.new)
+        ≡ concat_all a size nodes.now (store_in bytes.old starts.old ends.old) }
 {
     let verdict = sizes::measure(a, starts, ends, size, nodes);
     match verdict {
@@ -137,8 +137,8 @@ pub fn new_concat(
     new_size: usize,
     nodes: &[u32],
 ) -> Made
-    ensures { made result (store_in bytes.exit starts.exit ends.exit)
-        ≡ new_concat a new_size nodes.now (store_in bytes.entry starts.entry ends.entry) }
+    ensures { made result (store_in bytes.new starts.new ends.new)
+        ≡ new_concat a new_size nodes.now (store_in bytes.old starts.old ends.old) }
 {
     let verdict = concat_tests(a, bytes, starts, ends, new_size);
     match verdict {

@@ -38,9 +38,9 @@ fn add_term(
     counter: usize,
     n: u32,
 ) -> Number
-    requires atoms_within { AtomsWithin a starts ends }
-    requires bytes_bound { (a.used.bytes ≤ 4294967295) × (size ≤ 4294967295) × (counter ≤ size + 1) }
-    ensures { number_paper result ≡ ran size n counter (atom_of a (atom_slots_in starts.entry ends.entry) n) }
+    requires atoms_within { AtomsWithin a starts.now ends.now }
+    requires bounds { (a.used.bytes ≤ 4294967295) × (size ≤ 4294967295) × (counter ≤ size + 1) }
+    ensures { number_paper result ≡ ran size n counter (atom_of a (atom_slots_in starts.now ends.now) n) }
 {
     let found = arg::atom_of(a, starts, ends, n);
     match found {
@@ -58,9 +58,9 @@ fn add_term(
 
 // All terms, and at the end their whole length.
 pub fn measure(a: Allocator, starts: &[u32], ends: &[u32], size: usize, nodes: &[u32]) -> Verdict
-    requires atoms_within { AtomsWithin a starts ends }
-    requires bytes_bound { (a.used.bytes ≤ 4294967295) × (size ≤ 4294967295) }
-    ensures { verdict_paper result ≡ scan a (atom_slots_in starts.entry ends.entry) size nodes.now 0 }
+    requires atoms_within { AtomsWithin a starts.now ends.now }
+    requires bounds { (a.used.bytes ≤ 4294967295) × (size ≤ 4294967295) }
+    ensures { verdict_paper result ≡ scan a (atom_slots_in starts.now ends.now) size nodes.now 0 }
 {
     let mut counter: usize = 0;
     let mut i = 0;

@@ -60,8 +60,8 @@ pub fn store_atom(
     v: &[u8],
 ) -> Made
     requires { a.used.atoms < 62500000 }
-    ensures { made result (store_in bytes.exit starts.exit ends.exit)
-        ≡ store_atom a v.now (store_in bytes.entry starts.entry ends.entry) }
+    ensures { made result (store_in bytes.new starts.new ends.new)
+        ≡ store_atom a v.now (store_in bytes.old starts.old ends.old) }
 {
     if store_room(a, v.len(), bytes.len(), starts.len(), ends.len()) {
         let from = a.used.bytes;
@@ -87,8 +87,8 @@ pub fn small_or(
     counted: usize,
 ) -> Made
     requires { (a.used.atoms + a.ghosts.atoms < 62500000) × (a.ghosts.bytes + counted ≤ 8589934590) }
-    ensures { made result (store_in bytes.exit starts.exit ends.exit)
-        ≡ small_or (fits v.now) counted a v.now (store_in bytes.entry starts.entry ends.entry) }
+    ensures { made result (store_in bytes.new starts.new ends.new)
+        ≡ small_or (fits v.now) counted a v.now (store_in bytes.old starts.old ends.old) }
 {
     let fit = node::fits_in_small_atom(v);
     match fit {
@@ -108,8 +108,8 @@ pub fn new_atom(
     ends: &mut [u32],
     v: &[u8],
 ) -> Made
-    ensures { made result (store_in bytes.exit starts.exit ends.exit)
-        ≡ new_atom a v.now (store_in bytes.entry starts.entry ends.entry) }
+    ensures { made result (store_in bytes.new starts.new ends.new)
+        ≡ new_atom a v.now (store_in bytes.old starts.old ends.old) }
 {
     let tests = atom_tests(a, v.len(), bytes.len(), starts.len(), ends.len());
     match tests {
@@ -149,8 +149,8 @@ pub fn new_small_number(a: Allocator, v: u32) -> Made
 
 // A new atom of an unsigned number: its shortest bytes in two's complement.
 pub fn new_u64(a: Allocator, bytes: &mut [u8], starts: &mut [u32], ends: &mut [u32], x: u64) -> Made
-    ensures { made result (store_in bytes.exit starts.exit ends.exit)
-        ≡ new_u64 a x (store_in bytes.entry starts.entry ends.entry) }
+    ensures { made result (store_in bytes.new starts.new ends.new)
+        ≡ new_u64 a x (store_in bytes.old starts.old ends.old) }
 {
     let mut buf = [0u8; 9];
     let n = integer::write_u64(&mut buf, x);
@@ -159,8 +159,8 @@ pub fn new_u64(a: Allocator, bytes: &mut [u8], starts: &mut [u32], ends: &mut [u
 
 // A new atom of a signed number: its shortest bytes in two's complement.
 pub fn new_i64(a: Allocator, bytes: &mut [u8], starts: &mut [u32], ends: &mut [u32], x: i64) -> Made
-    ensures { made result (store_in bytes.exit starts.exit ends.exit)
-        ≡ new_i64 a x (store_in bytes.entry starts.entry ends.entry) }
+    ensures { made result (store_in bytes.new starts.new ends.new)
+        ≡ new_i64 a x (store_in bytes.old starts.old ends.old) }
 {
     let mut buf = [0u8; 9];
     let n = integer::write_i64(&mut buf, x);

@@ -1,6 +1,7 @@
 // The calls that count: atoms, integers, pairs, ghosts, parts of atoms. Each answers a node or a code; a refusal gives the
 // record back as it was given and writes no slot.
 #![tactic(auto)]
+
 pub mod atom;
 pub mod ghosts;
 pub mod pair;

@@ -33,8 +33,8 @@ fn pair_tests(a: Allocator, first: u32, rest: u32, firsts: usize, rests: usize) 
 
 // A new pair of two nodes.
 pub fn new_pair(a: Allocator, firsts: &mut [u32], rests: &mut [u32], first: u32, rest: u32) -> Made
-    ensures { made result (pair_store_in firsts.exit rests.exit)
-        ≡ new_pair a first rest (pair_store_in firsts.entry rests.entry) }
+    ensures { made result (pair_store_in firsts.new rests.new)
+        ≡ new_pair a first rest (pair_store_in firsts.old rests.old) }
 {
     let tests = pair_tests(a, first, rest, firsts.len(), rests.len());
     match tests {

@@ -40,8 +40,8 @@ fn bounded_atom(
     start: usize,
     end: usize,
 ) -> Atom
-    requires { AtomsWithin a starts ends }
-    ensures { atom_paper result ≡ bounded n start end (atom_of a (atom_slots_in starts.entry ends.entry) n) }
+    requires { AtomsWithin a starts.now ends.now }
+    ensures { atom_paper result ≡ bounded n start end (atom_of a (atom_slots_in starts.now ends.now) n) }
 {
     let found = arg::atom_of(a, starts, ends, n);
     match found {
@@ -63,7 +63,7 @@ fn substr_tests(
 ) -> Atom
     ensures { atom_paper result
         ≡ need (bytes_sound_at a bytes (length starts.now) (length ends.now)) 1 nil
-        (need (atoms_left a) 3 nil (bounded n start end (atom_of a (atom_slots_in starts.entry ends.entry) n))) }
+        (need (atoms_left a) 3 nil (bounded n start end (atom_of a (atom_slots_in starts.now ends.now) n))) }
 {
     if sound::bytes_sound(a, bytes, starts.len(), ends.len()) {
         if sound::MOST <= sound::total(a.used.atoms, a.ghosts.atoms) {
@@ -77,8 +77,8 @@ fn substr_tests(
 // A new slot over bytes that are there, where there is room for it.
 fn share_range(a: Allocator, starts: &mut [u32], ends: &mut [u32], start: usize, end: usize) -> Made
     requires { (a.used.atoms < 62500000) × (a.used.bytes ≤ 4294967295) × (start ≤ 4294967295) × (end ≤ 4294967295) }
-    ensures { (b : List ℕ) → made result (store b (atom_slots_in starts.exit ends.exit))
-        ≡ share_range a start end (store b (atom_slots_in starts.entry ends.entry)) }
+    ensures { (b : List ℕ) → made result (store b (atom_slots_in starts.new ends.new))
+        ≡ share_range a start end (store b (atom_slots_in starts.old ends.old)) }
 {
     let at = a.used.atoms;
     if sound::fit(at + 1, starts.len(), ends.len()) {
@@ -102,10 +102,10 @@ fn part_of_small(
     start: usize,
     end: usize,
 ) -> Made
-    requires atoms_bound { (a.used.atoms + a.ghosts.atoms < 62500000) × (a.ghosts.bytes ≤ 8589934590) }
-    requires v_bound { (v < 67108864) × (start ≤ end) × (end ≤ len_for v) }
-    ensures { made result (store_in bytes.exit starts.exit ends.exit)
-        ≡ small_or (fits (slice start end (small_bytes v))) 0 a (slice start end (small_bytes v)) (store_in bytes.entry starts.entry ends.entry) }
+    requires counts { (a.used.atoms + a.ghosts.atoms < 62500000) × (a.ghosts.bytes ≤ 8589934590) }
+    requires part { (v < 67108864) × (start ≤ end) × (end ≤ len_for v) }
+    ensures { made result (store_in bytes.new starts.new ends.new)
+        ≡ small_or (fits (slice start end (small_bytes v))) 0 a (slice start end (small_bytes v)) (store_in bytes.old starts.old ends.old) }
 {
     let mut buf = [0u8; 4];
     node::put_be(&mut buf, v as u64, 4);
@@ -125,8 +125,8 @@ pub fn new_substr(
     start: u32,
     end: u32,
 ) -> Made
-    ensures { made result (store_in bytes.exit starts.exit ends.exit)
-        ≡ new_substr a n start end (store_in bytes.entry starts.entry ends.entry) }
+    ensures { made result (store_in bytes.new starts.new ends.new)
+        ≡ new_substr a n start end (store_in bytes.old starts.old ends.old) }
 {
     let i = node::wide(start);
     let j = node::wide(end);

@@ -59,8 +59,8 @@ fn atom_item(
 ) -> Found
     requires { (from ≤ to) × (to ≤ length f.now) }
     ensures { Same
-        (λ (p : PairStore). read_item result (record_in words.exit) (together (store_in bytes.exit starts.exit ends.exit) p))
-        (λ p. read_atom f.now at from to (record_in words.entry) (together (store_in bytes.entry starts.entry ends.entry) p)) }
+        (λ (p : PairStore). read_item result (record_in words.new) (together (store_in bytes.new starts.new ends.new) p))
+        (λ p. read_atom f.now at from to (record_in words.old) (together (store_in bytes.old starts.old ends.old) p)) }
 {
     let answer = words::new_atom(words, bytes, starts, ends, &f[from..to]);
     placed(answer, at, to)
@@ -77,8 +77,8 @@ fn pair_item(
     rests: &mut [u32],
 ) -> Found
     ensures { Same
-        (λ (s : Store). read_item result (record_in words.exit) (together s (pair_store_in firsts.exit rests.exit)))
-        (λ s. read_pair at next first rest (record_in words.entry) (together s (pair_store_in firsts.entry rests.entry))) }
+        (λ (s : Store). read_item result (record_in words.new) (together s (pair_store_in firsts.new rests.new)))
+        (λ s. read_pair at next first rest (record_in words.old) (together s (pair_store_in firsts.old rests.old))) }
 {
     let answer = words::new_pair(words, firsts, rests, first, rest);
     placed(answer, at, next)
@@ -97,9 +97,9 @@ fn item(
     firsts: &mut [u32],
     rests: &mut [u32],
 ) -> Found
-    ensures { read_item result (record_in words.exit) (lists_in bytes.exit starts.exit ends.exit firsts.exit rests.exit)
-        ≡ item_of f.now levels at (record_in words.entry)
-        (lists_in bytes.entry starts.entry ends.entry firsts.entry rests.entry) }
+    ensures { read_item result (record_in words.new) (lists_in bytes.new starts.new ends.new firsts.new rests.new)
+        ≡ item_of f.now levels at (record_in words.old)
+        (lists_in bytes.old starts.old ends.old firsts.old rests.old) }
 {
     if levels == 0 {
         return fault(Code::TooDeep, at);
@@ -126,9 +126,9 @@ fn pair(
     rests: &mut [u32],
 ) -> Found
     requires { at < length f.now }
-    ensures { read_item result (record_in words.exit) (lists_in bytes.exit starts.exit ends.exit firsts.exit rests.exit)
-        ≡ pair_item (item_of f.now levels) at (record_in words.entry)
-        (lists_in bytes.entry starts.entry ends.entry firsts.entry rests.entry) }
+    ensures { read_item result (record_in words.new) (lists_in bytes.new starts.new ends.new firsts.new rests.new)
+        ≡ pair_item (item_of f.now levels) at (record_in words.old)
+        (lists_in bytes.old starts.old ends.old firsts.old rests.old) }
 {
     let one = item(f, at + 1, levels, words, bytes, starts, ends, firsts, rests);
     let head = one.answer;
@@ -185,8 +185,8 @@ pub fn load(
     rests: &mut [u32],
     f: &[u8],
 ) -> Loaded
-    ensures { loaded result (lists_in bytes.exit starts.exit ends.exit firsts.exit rests.exit)
-        ≡ load_of f.now a (lists_in bytes.entry starts.entry ends.entry firsts.entry rests.entry) }
+    ensures { loaded result (lists_in bytes.new starts.new ends.new firsts.new rests.new)
+        ≡ load_of f.now a (lists_in bytes.old starts.old ends.old firsts.old rests.old) }
 {
     if sound::lists_sound(
         a,

@@ -74,8 +74,8 @@ fn new_concat(
     p: &[u8],
 ) -> Made
     requires { length p.now ≤ 65536 }
-    ensures { made result (store_in bytes.exit starts.exit ends.exit)
-        ≡ new_concat a size (u32s p.now) (store_in bytes.entry starts.entry ends.entry) }
+    ensures { made result (store_in bytes.new starts.new ends.new)
+        ≡ new_concat a size (u32s p.now) (store_in bytes.old starts.old ends.old) }
 {
     let mut nodes = node_buffer();
     let n = fields::put_u32s(&mut nodes, p);
@@ -93,9 +93,9 @@ pub fn make(
     making: Making,
 ) -> Called
     requires { MakingWithin (length input.now) making }
-    ensures { came result (lists_in bytes.exit starts.exit ends.exit firsts.exit rests.exit)
+    ensures { came result (lists_in bytes.new starts.new ends.new firsts.new rests.new)
         ≡ came_of (call (making_in input.now making)
-        (state_in a (lists_in bytes.entry starts.entry ends.entry firsts.entry rests.entry))) }
+        (state_in a (lists_in bytes.old starts.old ends.old firsts.old rests.old))) }
 {
     match making {
         Making::Atom(from, to) => {
@@ -146,8 +146,8 @@ pub fn go_back(
     way: Way,
     k: Checkpoint,
 ) -> Restored
-    ensures { whole (maybe_paper result.answer) result.state (lists_in bytes.exit starts.exit ends.exit firsts.entry rests.entry)
-        ≡ restore_to (way_of way) k (state_in a (lists_in bytes.entry starts.entry ends.entry firsts.entry rests.entry)) }
+    ensures { whole (maybe_paper result.answer) result.state (lists_in bytes.new starts.new ends.new firsts.now rests.now)
+        ≡ restore_to (way_of way) k (state_in a (lists_in bytes.old starts.old ends.old firsts.now rests.now)) }
 {
     let used = k.used;
     match way {

@@ -235,8 +235,8 @@ pub fn act(
 ) -> Did
     requires sane { Sane m }
     requires within { Within (length input.now) request }
-    ensures { acted result (lists_in bytes.exit starts.exit ends.exit firsts.exit rests.exit)
-        ≡ act_of m (lists_in bytes.entry starts.entry ends.entry firsts.entry rests.entry) (meant input.now request) }
+    ensures { acted result (lists_in bytes.new starts.new ends.new firsts.new rests.new)
+        ≡ act_of m (lists_in bytes.old starts.old ends.old firsts.old rests.old) (meant input.now request) }
 {
     let a = m.state;
     match request {

@@ -1,5 +1,6 @@
 // The bits of a node, small atoms, the big-endian bytes of a number, and the numbers of the codes.
 #![tactic(auto)]
+
 pub mod code;
 
 ghost use Rattle.std.specs.Prelude.{◌≡◌, ◌∷◌, ◌++◌, ◌≤◌, ◌<◌, length, drop};

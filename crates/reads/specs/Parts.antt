@@ -20,7 +20,7 @@ offset_of bytes scratch (refuses code node) = bytes
 
 -- document 01's atom, of what is lent to the two calls
 abbrev pub atom_lent : Allocator → Ref → Ref → Ref → Ref → ℕ → Said Atom
-atom_lent a bytes starts ends scratch n = atom a bytes.now (atom_slots_in starts ends) n (length scratch.now)
+atom_lent a bytes starts ends scratch n = atom a bytes (atom_slots_in starts ends) n (length scratch)
 
 -- x and y agree from one index up to r; where a whole block of a size is left there, they differ
 abbrev pub Ahead : List ℕ → List ℕ → ℕ → ℕ → ℕ → Type 0

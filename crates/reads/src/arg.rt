@@ -10,8 +10,8 @@ use state::sound;
 
 // The Bytes node of an index, its slot tested.
 fn slot(a: Allocator, starts: &[u32], ends: &[u32], i: usize) -> Arg
-    requires { AtomsWithin a starts ends }
-    ensures { arg_paper result ≡ arg_of a (atom_slots_in starts.entry ends.entry) (bytes_at i) }
+    requires { AtomsWithin a starts.now ends.now }
+    ensures { arg_paper result ≡ arg_of a (atom_slots_in starts.now ends.now) (bytes_at i) }
 {
     if a.used.atoms <= i {
         return Arg::Refused(Code::NotValid, node::NIL);
@@ -26,8 +26,8 @@ fn slot(a: Allocator, starts: &[u32], ends: &[u32], i: usize) -> Arg
 
 // A node argument, tested for 5 not valid, then its slot for 1 unsound.
 pub fn arg(a: Allocator, starts: &[u32], ends: &[u32], n: u32) -> Arg
-    requires { AtomsWithin a starts ends }
-    ensures { arg_paper result ≡ arg_rule a (atom_slots_in starts.entry ends.entry) n }
+    requires { AtomsWithin a starts.now ends.now }
+    ensures { arg_paper result ≡ arg_rule a (atom_slots_in starts.now ends.now) n }
 {
     let view = node::view(n);
     match view {
@@ -57,8 +57,8 @@ pub fn atom_arg(n: u32, x: Arg) -> Atom
 
 // An atom argument, tested for 5 not valid, 1 unsound slot and 6 a pair.
 pub fn atom_of(a: Allocator, starts: &[u32], ends: &[u32], n: u32) -> Atom
-    requires { AtomsWithin a starts ends }
-    ensures { atom_paper result ≡ atom_of a (atom_slots_in starts.entry ends.entry) n }
+    requires { AtomsWithin a starts.now ends.now }
+    ensures { atom_paper result ≡ atom_of a (atom_slots_in starts.now ends.now) n }
 {
     atom_arg(n, arg(a, starts, ends, n))
 }

@@ -155,7 +155,7 @@ pub fn atom_eq(
     lhs: u32,
     rhs: u32,
 ) -> Truth
-    ensures { truth_paper result ≡ atom_eq a bytes.now (atom_slots_in starts.entry ends.entry) lhs rhs }
+    ensures { truth_paper result ≡ atom_eq a bytes.now (atom_slots_in starts.now ends.now) lhs rhs }
 {
     if sound::bytes_sound(a, bytes.len(), starts.len(), ends.len()) {
         let left = super::arg::arg(a, starts, ends, lhs);

@@ -1,5 +1,6 @@
 // The calls that only read. Each does its own checking: any record, node and slices get an answer or a code.
 #![tactic(auto)]
+
 pub mod arg;
 pub mod eq;
 pub mod part;
@@ -28,7 +29,7 @@ pub fn node(
     n: u32,
 ) -> NodeVisitor
     ensures { visitor_paper result
-        ≡ node_rule a (atom_slots_in starts.entry ends.entry) (pair_slots_in firsts.entry rests.entry) n }
+        ≡ node_rule a (atom_slots_in starts.now ends.now) (pair_slots_in firsts.now rests.now) n }
 {
     if sound::slots_sound(a, starts.len(), ends.len(), firsts.len(), rests.len()) {
         let atoms = a.used.atoms;
@@ -53,7 +54,7 @@ pub fn node(
 // The children of a pair whose slot is lent, tested.
 fn children(a: Allocator, firsts: &[u32], rests: &[u32], i: usize) -> SExp
     requires { (i < length firsts.now) × (i < length rests.now) }
-    ensures { sexp_paper result ≡ children_of a (pair_slots_in firsts.entry rests.entry) i branch }
+    ensures { sexp_paper result ≡ children_of a (pair_slots_in firsts.now rests.now) i branch }
 {
     let first = firsts[i];
     let rest = rests[i];
@@ -65,8 +66,8 @@ fn children(a: Allocator, firsts: &[u32], rests: &[u32], i: usize) -> SExp
 
 // Whether a node is an atom, or its two children, beside a sound record.
 fn sexp_of(a: Allocator, firsts: &[u32], rests: &[u32], n: u32) -> SExp
-    requires { PairsWithin a firsts rests }
-    ensures { sexp_paper result ≡ sexp_of a (pair_slots_in firsts.entry rests.entry) (view n) }
+    requires { PairsWithin a firsts.now rests.now }
+    ensures { sexp_paper result ≡ sexp_of a (pair_slots_in firsts.now rests.now) (view n) }
 {
     let view = node::view(n);
     match view {
@@ -89,7 +90,7 @@ fn sexp_of(a: Allocator, firsts: &[u32], rests: &[u32], n: u32) -> SExp
 
 // Whether a node is an atom, or its two children.
 pub fn sexp(a: Allocator, firsts: &[u32], rests: &[u32], n: u32) -> SExp
-    ensures { sexp_paper result ≡ sexp_rule a (pair_slots_in firsts.entry rests.entry) n }
+    ensures { sexp_paper result ≡ sexp_rule a (pair_slots_in firsts.now rests.now) n }
 {
     if sound::pairs_sound(a, firsts.len(), rests.len()) {
         return sexp_of(a, firsts, rests, n);
@@ -99,7 +100,7 @@ pub fn sexp(a: Allocator, firsts: &[u32], rests: &[u32], n: u32) -> SExp
 
 // The children of a pair, for a walk along a list; an atom has none.
 pub fn next(a: Allocator, firsts: &[u32], rests: &[u32], n: u32) -> Next
-    ensures { next_paper result ≡ sexp_rule a (pair_slots_in firsts.entry rests.entry) n }
+    ensures { next_paper result ≡ sexp_rule a (pair_slots_in firsts.now rests.now) n }
 {
     let found = sexp(a, firsts, rests, n);
     match found {
@@ -111,7 +112,7 @@ pub fn next(a: Allocator, firsts: &[u32], rests: &[u32], n: u32) -> Next
 
 // How many bytes an atom has.
 pub fn atom_len(a: Allocator, starts: &[u32], ends: &[u32], n: u32) -> Number
-    ensures { number_paper result ≡ atom_len a (atom_slots_in starts.entry ends.entry) n }
+    ensures { number_paper result ≡ atom_len a (atom_slots_in starts.now ends.now) n }
 {
     if sound::atoms_sound(a, starts.len(), ends.len()) {
         let found = arg::atom_of(a, starts, ends, n);
@@ -126,7 +127,7 @@ pub fn atom_len(a: Allocator, starts: &[u32], ends: &[u32], n: u32) -> Number
 
 // The value of an atom whose bytes are those of a small one, whatever its kind.
 pub fn small_number(a: Allocator, bytes: &[u8], starts: &[u32], ends: &[u32], n: u32) -> SmallNumber
-    ensures { small_number_paper result ≡ small_number a bytes.now (atom_slots_in starts.entry ends.entry) n }
+    ensures { small_number_paper result ≡ small_number a bytes.now (atom_slots_in starts.now ends.now) n }
 {
     if sound::bytes_sound(a, bytes.len(), starts.len(), ends.len()) {
         let found = arg::arg(a, starts, ends, n);
@@ -153,8 +154,8 @@ fn small_of(v: &[u8]) -> SmallNumber
 
 // The status of the Bytes node of an index: its slot is tested only where it is read.
 fn bytes_status(a: Allocator, starts: &[u32], ends: &[u32], k: Counts, i: usize) -> NodeStatus
-    requires { AtomsWithin a starts ends }
-    ensures { status_paper result ≡ node_status_of k a (atom_slots_in starts.entry ends.entry) (bytes_at i) }
+    requires { AtomsWithin a starts.now ends.now }
+    ensures { status_paper result ≡ node_status_of k a (atom_slots_in starts.now ends.now) (bytes_at i) }
 {
     if a.used.atoms <= i {
         return NodeStatus::Refused(Code::NotValid, node::NIL);
@@ -176,8 +177,8 @@ fn bytes_status(a: Allocator, starts: &[u32], ends: &[u32], k: Counts, i: usize)
 
 // The status of a node beside a sound record.
 fn status_of(a: Allocator, starts: &[u32], ends: &[u32], k: Counts, n: u32) -> NodeStatus
-    requires { AtomsWithin a starts ends }
-    ensures { status_paper result ≡ node_status_of k a (atom_slots_in starts.entry ends.entry) (view n) }
+    requires { AtomsWithin a starts.now ends.now }
+    ensures { status_paper result ≡ node_status_of k a (atom_slots_in starts.now ends.now) (view n) }
 {
     let view = node::view(n);
     match view {
@@ -204,7 +205,7 @@ pub fn checkpoint_node_status(
     k: Counts,
     n: u32,
 ) -> NodeStatus
-    ensures { status_paper result ≡ node_status k a (atom_slots_in starts.entry ends.entry) n }
+    ensures { status_paper result ≡ node_status k a (atom_slots_in starts.now ends.now) n }
 {
     if sound::atoms_sound(a, starts.len(), ends.len()) {
         return status_of(a, starts, ends, k, n);

@@ -19,7 +19,7 @@ fn part_of(
     n: u32,
     scratch: usize,
 ) -> rules::Atom
-    ensures { atom_paper result ≡ atom_rule a bytes.now (atom_slots_in starts.entry ends.entry) n scratch }
+    ensures { atom_paper result ≡ atom_rule a bytes.now (atom_slots_in starts.now ends.now) n scratch }
 {
     if sound::bytes_sound(a, bytes.len(), starts.len(), ends.len()) {
         let found = super::arg::atom_of(a, starts, ends, n);
@@ -46,9 +46,9 @@ pub fn filled(
     scratch: &mut [u8],
     n: u32,
 ) -> rules::Atom
-    ensures result_value { atom_paper result ≡ atom_lent a bytes.entry starts.entry ends.entry scratch.entry n }
-    ensures scratch_after { scratch.new
-        ≡ scratch_after (atom_lent a bytes.entry starts.entry ends.entry scratch.entry n) scratch.old }
+    ensures answer { atom_paper result ≡ atom_lent a bytes.now starts.now ends.now scratch.old n }
+    ensures scratch { scratch.new
+        ≡ scratch_after (atom_lent a bytes.now starts.now ends.now scratch.old n) scratch.old }
 {
     let part = part_of(a, bytes, starts, ends, n, scratch.len());
     match part {
@@ -70,9 +70,9 @@ pub fn fill(
     scratch: &mut [u8],
     n: u32,
 ) -> Verdict
-    ensures result_value { verdict_paper result ≡ says_of (λ x. done) (atom_lent a bytes.entry starts.entry ends.entry scratch.entry n) }
-    ensures scratch_after { scratch.new
-        ≡ scratch_after (atom_lent a bytes.entry starts.entry ends.entry scratch.entry n) scratch.old }
+    ensures answer { verdict_paper result ≡ says_of (λ x. done) (atom_lent a bytes.now starts.now ends.now scratch.old n) }
+    ensures scratch { scratch.new
+        ≡ scratch_after (atom_lent a bytes.now starts.now ends.now scratch.old n) scratch.old }
 {
     let part = filled(a, bytes, starts, ends, scratch, n);
     match part {
@@ -91,12 +91,12 @@ pub fn atom<'a>(
     scratch: &'a [u8],
     n: u32,
 ) -> &'a [u8]
-    ensures result_value { result.now
-        ≡ part_bytes bytes.now scratch.now (atom_lent a bytes.entry starts.entry ends.entry scratch.entry n) }
-    ensures ref_ptr_value { result.ref_ptr.0
-        ≡ block_of bytes.entry.ref_ptr.0 scratch.entry.ref_ptr.0 (atom_lent a bytes.entry starts.entry ends.entry scratch.entry n) }
-    ensures ref_ptr_value_2 { result.ref_ptr.1
-        ≡ offset_of bytes.entry.ref_ptr.1 scratch.entry.ref_ptr.1 (atom_lent a bytes.entry starts.entry ends.entry scratch.entry n) }
+    ensures part { result.now
+        ≡ part_bytes bytes.now scratch.now (atom_lent a bytes.now starts.now ends.now scratch.now n) }
+    ensures block { result.ref_ptr.0
+        ≡ block_of bytes.entry.ref_ptr.0 scratch.entry.ref_ptr.0 (atom_lent a bytes.now starts.now ends.now scratch.now n) }
+    ensures offset { result.ref_ptr.1
+        ≡ offset_of bytes.entry.ref_ptr.1 scratch.entry.ref_ptr.1 (atom_lent a bytes.now starts.now ends.now scratch.now n) }
 {
     let part = part_of(a, bytes, starts, ends, n, scratch.len());
     match part {

@@ -12,7 +12,7 @@ fn wide(b: u8) -> usize
 pub fn u16_at(s: &[u8], i: usize) -> usize
     requires { i + 2 ≤ length s.now }
     ensures value { result ≡ u16_at s.now i }
-    ensures upper_bound { result < 65536 }
+    ensures bound { result < 65536 }
 {
     wide(s[i]) + 256 * wide(s[i + 1])
 }
@@ -20,7 +20,7 @@ pub fn u16_at(s: &[u8], i: usize) -> usize
 fn wide_u32_at(s: &[u8], i: usize) -> usize
     requires { i + 4 ≤ length s.now }
     ensures value { result ≡ u32_at s.now i }
-    ensures upper_bound { result < 4294967296 }
+    ensures bound { result < 4294967296 }
 {
     u16_at(s, i) + 65536 * u16_at(s, i + 2)
 }
@@ -42,8 +42,8 @@ pub fn u64_at(s: &[u8], i: usize) -> usize
 // Puts the u32 numbers of s at the front of out, and answers how many there are.
 pub fn put_u32s(out: &mut [u32], s: &[u8]) -> usize
     requires { length s.now / 4 ≤ length out.old }
-    ensures out_after { take result out.new ≡ u32s s.now }
-    ensures prefix_len { IsPrefixLen result out.new }
+    ensures numbers { take result out.new ≡ u32s s.now }
+    ensures prefix { IsPrefixLen result out.new }
 {
     let n = s.len() / 4;
     let mut i = 0;

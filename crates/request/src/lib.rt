@@ -1,5 +1,6 @@
 // What a record of the request program asks, read from the input alone: numbers, and ranges of the input where bytes or nodes stand.
 #![tactic(auto)]
+
 pub mod fields;
 
 ghost use Rattle.std.specs.Prelude.{◌≡◌, List, ℕ, ◌≤◌, ◌<◌, length};
@@ -126,8 +127,8 @@ fn size_of(kind: usize) -> usize
 // Kinds 10 to 12: a u64, the amount.
 fn ghosts(kind: usize, p: &[u8]) -> Request
     requires { length p.now ≡ size_of kind }
-    ensures by_index { (i : List ℕ) → meant i result ≡ ghosts_of kind p.now }
-    ensures by_index_2 { (n : ℕ) → Within n result }
+    ensures meaning { (i : List ℕ) → meant i result ≡ ghosts_of kind p.now }
+    ensures within { (n : ℕ) → Within n result }
 {
     if kind == ADD_GHOST_PAIR {
         return Request::Make(Making::AddGhostPair(fields::u64_at(p, 0)));
@@ -144,8 +145,8 @@ fn ghosts(kind: usize, p: &[u8]) -> Request
 // Kinds 7 to 9: a u16, the checkpoint's number; and a u32, the node, where the restore has one.
 fn going_back(kind: usize, p: &[u8]) -> Request
     requires { length p.now ≡ size_of kind }
-    ensures by_index { (i : List ℕ) → meant i result ≡ back_of kind p.now }
-    ensures by_index_2 { (n : ℕ) → Within n result }
+    ensures meaning { (i : List ℕ) → meant i result ≡ back_of kind p.now }
+    ensures within { (n : ℕ) → Within n result }
 {
     if kind == RESTORE {
         return Request::Restore(Way::Plainly, fields::u16_at(p, 0));
@@ -164,8 +165,8 @@ fn going_back(kind: usize, p: &[u8]) -> Request
 // The kinds that have numbers alone: a pair's first and rest, a substr's node, start and end, a value.
 fn numbers(kind: usize, p: &[u8]) -> Request
     requires { length p.now ≡ size_of kind }
-    ensures by_index { (i : List ℕ) → meant i result ≡ numbers_of kind p.now }
-    ensures by_index_2 { (n : ℕ) → Within n result }
+    ensures meaning { (i : List ℕ) → meant i result ≡ numbers_of kind p.now }
+    ensures within { (n : ℕ) → Within n result }
 {
     if kind == PAIR {
         let first = fields::u32_at(p, 0);
@@ -190,7 +191,7 @@ fn numbers(kind: usize, p: &[u8]) -> Request
 // Kind 4, in the record that ends at an index: a u64, the size, and then a u32 for each node.
 fn concat(rest: &[u8], end: usize) -> Request
     requires { (4 ≤ end) × (end ≤ length rest.now) × (end < 65540) }
-    ensures result_value { meant rest.now result ≡ concat_of (slice 4 end rest.now) }
+    ensures meaning { meant rest.now result ≡ concat_of (slice 4 end rest.now) }
     ensures within { Within (length rest.now) result }
 {
     let p = &rest[HEAD..end];
@@ -207,7 +208,7 @@ fn concat(rest: &[u8], end: usize) -> Request
 // The request of a kind, in the record that ends at an index.
 fn request_of(kind: usize, rest: &[u8], end: usize) -> Request
     requires { (4 ≤ end) × (end ≤ length rest.now) × (end < 65540) }
-    ensures result_value { meant rest.now result ≡ request_of kind (slice 4 end rest.now) }
+    ensures meaning { meant rest.now result ≡ request_of kind (slice 4 end rest.now) }
     ensures within { Within (length rest.now) result }
 {
     if kind == ATOM {
@@ -224,8 +225,8 @@ fn request_of(kind: usize, rest: &[u8], end: usize) -> Request
 
 // The record at the front of the input.
 pub fn read(rest: &[u8]) -> Asked
-    ensures request_value { meant rest.now result.request ≡ request_at rest.now }
-    ensures size_value { result.size ≡ frame_size (frame_of rest.now) }
+    ensures meaning { meant rest.now result.request ≡ request_at rest.now }
+    ensures size { result.size ≡ frame_size (frame_of rest.now) }
     ensures within { Within (length rest.now) result.request }
 {
     let frame = frame_at(rest);

@@ -48,9 +48,9 @@ pub fn usable(
     firsts: &[u32],
     rests: &[u32],
 ) -> bool
-    requires { AtomsWithin a starts ends × PairsWithin a firsts rests }
+    requires { AtomsWithin a starts.now ends.now × PairsWithin a firsts.now rests.now }
     ensures { result
-        ≡ usable_rule k a (atom_slots_in starts.entry ends.entry) (pair_slots_in firsts.entry rests.entry) }
+        ≡ usable_rule k a (atom_slots_in starts.now ends.now) (pair_slots_in firsts.now rests.now) }
 {
     let used = a.used;
     if within(k, used) {
@@ -70,8 +70,8 @@ fn new_course(
     rests: &[u32],
     n: u32,
 ) -> Course
-    requires { slots_sound a (atom_slots_in starts ends) (pair_slots_in firsts rests) ≡ true }
-    ensures { (x : ArgRule) → arg_rule a (atom_slots_in starts.entry ends.entry) n
+    requires { slots_sound a (atom_slots_in starts.now ends.now) (pair_slots_in firsts.now rests.now) ≡ true }
+    ensures { (x : ArgRule) → arg_rule a (atom_slots_in starts.now ends.now) n
         ≡ says x → course_paper result ≡ new_course a x }
 {
     let found = reads::node(a, starts, ends, firsts, rests, n);
@@ -97,8 +97,8 @@ fn node_course(
     rests: &[u32],
     n: u32,
 ) -> Course
-    requires { slots_sound a (atom_slots_in starts ends) (pair_slots_in firsts rests) ≡ true }
-    ensures { course_paper result ≡ node_course k a (arg_rule a (atom_slots_in starts.entry ends.entry) n) }
+    requires { slots_sound a (atom_slots_in starts.now ends.now) (pair_slots_in firsts.now rests.now) ≡ true }
+    ensures { course_paper result ≡ node_course k a (arg_rule a (atom_slots_in starts.now ends.now) n) }
 {
     let found = arg::arg(a, starts, ends, n);
     match found {
@@ -137,7 +137,7 @@ pub fn course_of(
     n: u32,
 ) -> Course
     ensures { course_paper result
-        ≡ course_rule k n a (lists_in bytes.entry starts.entry ends.entry firsts.entry rests.entry) }
+        ≡ course_rule k n a (lists_in bytes.now starts.now ends.now firsts.now rests.now) }
 {
     if sound::lists_sound(
         a,

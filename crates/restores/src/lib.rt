@@ -28,7 +28,7 @@ pub fn restore_transparent_checkpoint(
     rests: &[u32],
     k: Counts,
 ) -> Changed
-    ensures { changed result ≡ restore_transparent k a (slots_in starts.entry ends.entry firsts.entry rests.entry) }
+    ensures { changed result ≡ restore_transparent k a (slots_in starts.now ends.now firsts.now rests.now) }
 {
     if sound::slots_sound(a, starts.len(), ends.len(), firsts.len(), rests.len()) {
         if course::usable(k, a, starts, ends, firsts, rests) {
@@ -51,7 +51,7 @@ pub fn restore_checkpoint(
     rests: &[u32],
     k: Checkpoint,
 ) -> Changed
-    ensures { changed result ≡ restore_plain k a (slots_in starts.entry ends.entry firsts.entry rests.entry) }
+    ensures { changed result ≡ restore_plain k a (slots_in starts.now ends.now firsts.now rests.now) }
 {
     let used = k.used;
     if sound::slots_sound(a, starts.len(), ends.len(), firsts.len(), rests.len()) {
@@ -101,8 +101,8 @@ fn share(
     end: usize,
 ) -> Restored
     requires { Shareable k a (length starts.old) (length ends.old) start end }
-    ensures { (b : List ℕ) → restored result (store b (atom_slots_in starts.exit ends.exit))
-        ≡ restore_by k a (store b (atom_slots_in starts.entry ends.entry)) (share_course start end) }
+    ensures { (b : List ℕ) → restored result (store b (atom_slots_in starts.new ends.new))
+        ≡ restore_by k a (store b (atom_slots_in starts.old ends.old)) (share_course start end) }
 {
     let at = k.atoms;
     starts[at] = start as u32;
@@ -124,9 +124,9 @@ fn copy_node(
     start: usize,
     end: usize,
 ) -> Restored
-    requires { Copyable k a (store_in bytes starts ends) start end }
-    ensures { restored result (store_in bytes.exit starts.exit ends.exit)
-        ≡ clone k start end a (store_in bytes.entry starts.entry ends.entry) }
+    requires { Copyable k a (store_in bytes.old starts.old ends.old) start end }
+    ensures { restored result (store_in bytes.new starts.new ends.new)
+        ≡ clone k start end a (store_in bytes.old starts.old ends.old) }
 {
     let len = end - start;
     let mut saved = [0u8; 48];
@@ -147,8 +147,8 @@ pub fn maybe_restore_with_node(
     k: Counts,
     n: u32,
 ) -> Restored
-    ensures { restored result (store_in bytes.exit starts.exit ends.exit)
-        ≡ maybe_restore k n a (store_in bytes.entry starts.entry ends.entry) (pair_store_in firsts.entry rests.entry) }
+    ensures { restored result (store_in bytes.new starts.new ends.new)
+        ≡ maybe_restore k n a (store_in bytes.old starts.old ends.old) (pair_store_in firsts.now rests.now) }
 {
     let course = course::course_of(k, a, bytes, starts, ends, firsts, rests, n);
     match course {

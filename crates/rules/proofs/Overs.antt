@@ -11,11 +11,11 @@ use Rattle.rules.specs.State.{over}
 -- ---- a copy into the lent tail: e is what the copying left of it
 
 pub tail_over : (l v e : List ℕ) (i : ℕ) → i + length v ≤ length l
-    → e ≡ take (length v) v ++ drop (length v) (take (length l - i) (drop i l)) → put_mid i (length l - i) l e ≡ over l i v
+    → e ≡ v ++ drop (length v) (take (length l - i) (drop i l)) → put_mid i (length l - i) l e ≡ over l i v
 tail_over l v e i h k =
     let t : take (length l - i) (drop i l) ≡ drop i l = take_all (length l - i) (drop i l) (simp length-drop (omega arith)) in
     let d : drop (i + (length l - i)) l ≡ [] = drop_of_length-le l {i = i + (length l - i)} (omega arith) in
-    simp (k, take-length, t, d, drop-drop, append-nil)
+    simp (k, t, d, drop-drop, append-nil)
 
 -- ---- laws of what is written over
 

@@ -1,29 +1,28 @@
 -- What is lent to a call, by one name: the lists behind its references, as its contract speaks of them.
--- `storeIn bytes.entry ..` is what a call finds there, `storeIn bytes.exit ..` what it leaves.
+-- `store_in bytes.old ..` is what a call finds there, `store_in bytes.new ..` what it leaves; what is lent to be read is `bytes.now`.
 use Rattle.std.specs.Prelude.{ℕ, ◌≤◌, List, length}
-use Rattle.std.specs.Borrow.{Bor}
 use Rattle.rules.specs.declared.Allocator.{Allocator}
 use Rattle.rules.specs.State.{AtomSlots, atom_slots, PairSlots, pair_slots, Lists, lists, Store, store, PairStore, pair_store, Slots, slots}
 
--- a reference to a lent list
+-- what a reference to a lent list leads to: the list
 abbrev pub Ref : Type 0
-Ref = Bor (List ℕ)
+Ref = List ℕ
 
 -- ---- to a read
 
 abbrev pub atom_slots_in : Ref → Ref → AtomSlots
-atom_slots_in starts ends = atom_slots starts.now ends.now
+atom_slots_in starts ends = atom_slots starts ends
 
 abbrev pub pair_slots_in : Ref → Ref → PairSlots
-pair_slots_in firsts rests = pair_slots firsts.now rests.now
+pair_slots_in firsts rests = pair_slots firsts rests
 
 abbrev pub lists_in : Ref → Ref → Ref → Ref → Ref → Lists
-lists_in bytes starts ends firsts rests = lists bytes.now (atom_slots_in starts ends) (pair_slots_in firsts rests)
+lists_in bytes starts ends firsts rests = lists bytes (atom_slots_in starts ends) (pair_slots_in firsts rests)
 
 -- ---- to a call that creates, or restores
 
 abbrev pub store_in : Ref → Ref → Ref → Store
-store_in bytes starts ends = store bytes.now (atom_slots_in starts ends)
+store_in bytes starts ends = store bytes (atom_slots_in starts ends)
 
 abbrev pub pair_store_in : Ref → Ref → PairStore
 pair_store_in firsts rests = pair_store (pair_slots_in firsts rests)
@@ -34,7 +33,7 @@ slots_in starts ends firsts rests = slots (atom_slots_in starts ends) (pair_slot
 -- ---- what a helper asks of its caller: the used atoms, or pairs, are within the lent slots
 
 abbrev pub AtomsWithin : Allocator → Ref → Ref → Type 0
-AtomsWithin a starts ends = (a.used.atoms ≤ length starts.now) × (a.used.atoms ≤ length ends.now)
+AtomsWithin a starts ends = (a.used.atoms ≤ length starts) × (a.used.atoms ≤ length ends)
 
 abbrev pub PairsWithin : Allocator → Ref → Ref → Type 0
-PairsWithin a firsts rests = (a.used.pairs ≤ length firsts.now) × (a.used.pairs ≤ length rests.now)
+PairsWithin a firsts rests = (a.used.pairs ≤ length firsts) × (a.used.pairs ≤ length rests)

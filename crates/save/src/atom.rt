@@ -29,8 +29,8 @@ pub fn form_len(v: &[u8]) -> usize
 // Writes the shortest prefix for a length, and says where the bytes begin. The length is big-endian, with the base added to its first byte.
 fn put_prefix(len: usize, file: &mut [u8], at: usize) -> usize
     requires { (len ≤ 4294967295) × (at + (1 + extra_for len) ≤ length file.old) }
-    ensures file_after { file.new ≡ over file.old at (prefix_of (extra_for len) len) }
-    ensures value { result ≡ at + (1 + extra_for len) }
+    ensures written { file.new ≡ over file.old at (prefix_of (extra_for len) len) }
+    ensures end { result ≡ at + (1 + extra_for len) }
 {
     let extra = prefix::extra_for(len as u64);
     node::put_be(&mut file[at..], len as u64, extra + 1);
@@ -41,8 +41,8 @@ fn put_prefix(len: usize, file: &mut [u8], at: usize) -> usize
 // Writes the form at a place, and says where the next begins.
 pub fn put_form(v: &[u8], file: &mut [u8], at: usize) -> usize
     requires { (length v.now ≤ 4294967295) × (at + length (shortest_atom v.now) ≤ length file.old) }
-    ensures file_after { file.new ≡ over file.old at (shortest_atom v.now) }
-    ensures value { result ≡ at + length (shortest_atom v.now) }
+    ensures written { file.new ≡ over file.old at (shortest_atom v.now) }
+    ensures end { result ≡ at + length (shortest_atom v.now) }
 {
     let len = v.len();
     if alone(v) {
@@ -68,8 +68,8 @@ pub fn small_len(v: u32) -> usize
 // Writes the form of a small atom.
 pub fn put_small(v: u32, file: &mut [u8], at: usize) -> usize
     requires { (v < 67108864) × (at + length (shortest_atom (small_bytes v)) ≤ length file.old) }
-    ensures file_after { file.new ≡ over file.old at (shortest_atom (small_bytes v)) }
-    ensures value { result ≡ at + length (shortest_atom (small_bytes v)) }
+    ensures written { file.new ≡ over file.old at (shortest_atom (small_bytes v)) }
+    ensures end { result ≡ at + length (shortest_atom (small_bytes v)) }
 {
     let mut buf = [0u8; 4];
     node::put_be(&mut buf, v as u64, 4);

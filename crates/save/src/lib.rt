@@ -36,9 +36,9 @@ fn measure(
     room: usize,
     n: u32,
 ) -> Number
-    requires { lists_sound a (lists_in bytes starts ends firsts rests) ≡ true }
+    requires { lists_sound a (lists_in bytes.now starts.now ends.now firsts.now rests.now) ≡ true }
     ensures { number_paper result
-        ≡ says_of length (form_of a (lists_in bytes.entry starts.entry ends.entry firsts.entry rests.entry) levels room n) }
+        ≡ says_of length (form_of a (lists_in bytes.now starts.now ends.now firsts.now rests.now) levels room n) }
 {
     if levels == 0 {
         return Number::Refused(Code::TooDeep, node::NIL);
@@ -81,14 +81,14 @@ fn put(
     file: &mut [u8],
     at: usize,
 ) -> usize
-    requires rests_value { lists_sound a (lists_in bytes starts ends firsts rests) ≡ true }
-    requires at_in_bounds { (at ≤ length file.old) × Accepted (form_of a (lists_in bytes starts ends firsts rests) levels (length file.old - at) n) }
-    ensures file_after { file.new
+    requires sound { lists_sound a (lists_in bytes.now starts.now ends.now firsts.now rests.now) ≡ true }
+    requires fits { (at ≤ length file.old) × Accepted (form_of a (lists_in bytes.now starts.now ends.now firsts.now rests.now) levels (length file.old - at) n) }
+    ensures written { file.new
         ≡ over file.old at
-        (formed (form_of a (lists_in bytes.entry starts.entry ends.entry firsts.entry rests.entry) levels (length file.old - at) n)) }
-    ensures value { result
+        (formed (form_of a (lists_in bytes.now starts.now ends.now firsts.now rests.now) levels (length file.old - at) n)) }
+    ensures end { result
         ≡ at + length
-        (formed (form_of a (lists_in bytes.entry starts.entry ends.entry firsts.entry rests.entry) levels (length file.old - at) n)) }
+        (formed (form_of a (lists_in bytes.now starts.now ends.now firsts.now rests.now) levels (length file.old - at) n)) }
 {
     let found = reads::node(a, starts, ends, firsts, rests, n);
     match found {
@@ -118,7 +118,7 @@ pub fn save(
     file: &mut [u8],
 ) -> Number
     ensures { saving result file.new
-        ≡ save_rule a (lists_in bytes.entry starts.entry ends.entry firsts.entry rests.entry) n file.old }
+        ≡ save_rule a (lists_in bytes.now starts.now ends.now firsts.now rests.now) n file.old }
 {
     if sound::lists_sound(
         a,

@@ -1,6 +1,7 @@
 // A state: its record and the slices lent beside it. The public calls that make a record, read its counts, take a
 // checkpoint of it, or say whether a state is well-formed.
 #![tactic(auto)]
+
 pub mod record;
 pub mod sound;
 
@@ -114,7 +115,7 @@ pub fn well_formed(
     firsts: &[u32],
     rests: &[u32],
 ) -> bool
-    ensures { result ≡ well_formed a (lists_in bytes.entry starts.entry ends.entry firsts.entry rests.entry) }
+    ensures { result ≡ well_formed a (lists_in bytes.now starts.now ends.now firsts.now rests.now) }
 {
     let used = a.used;
     if sound::lists_sound(

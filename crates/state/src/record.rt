@@ -116,7 +116,7 @@ fn above(x: usize, y: usize) -> usize
 pub fn savings(k: Counts, a: Allocator) -> usize
     requires { Limits a }
     ensures value { result ≡ savings_of k a }
-    ensures upper_bound { result < 8589934592 }
+    ensures bound { result < 8589934592 }
 {
     let bytes = above(a.used.bytes, k.bytes);
     let atoms = above(a.used.atoms, k.atoms);
@@ -127,7 +127,7 @@ pub fn savings(k: Counts, a: Allocator) -> usize
 // The used counts cut to k; what was cut becomes ghosts.
 pub fn cut(k: Counts, a: Allocator) -> Allocator
     requires below { Below k a.used }
-    requires a_bound { (atoms a ≤ 62500000) × (pairs a ≤ 62500000) × (heap a ≤ 8589934590) }
+    requires limits { (atoms a ≤ 62500000) × (pairs a ≤ 62500000) × (heap a ≤ 8589934590) }
     ensures { result ≡ cut_to k a }
 {
     let ghosts = Counts {

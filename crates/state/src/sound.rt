@@ -143,7 +143,7 @@ pub fn children_sound(first: u32, rest: u32, atoms: usize, i: usize) -> bool
 // Whether the first atom slots lie within the first bytes, both as used says.
 pub fn atom_slots_sound(used: Counts, starts: &[u32], ends: &[u32]) -> bool
     requires { (used.atoms ≤ length starts.now) × (used.atoms ≤ length ends.now) }
-    ensures { result ≡ atom_slots_sound used (atom_slots_in starts.entry ends.entry) }
+    ensures { result ≡ atom_slots_sound used (atom_slots_in starts.now ends.now) }
 {
     let count = used.atoms;
     let bytes = used.bytes;
@@ -161,7 +161,7 @@ pub fn atom_slots_sound(used: Counts, starts: &[u32], ends: &[u32]) -> bool
 // Whether the first pair slots have their children among the atoms that used says and the pairs before them.
 pub fn pair_slots_sound(used: Counts, firsts: &[u32], rests: &[u32]) -> bool
     requires { (used.pairs ≤ length firsts.now) × (used.pairs ≤ length rests.now) }
-    ensures { result ≡ pair_slots_sound used (pair_slots_in firsts.entry rests.entry) }
+    ensures { result ≡ pair_slots_sound used (pair_slots_in firsts.now rests.now) }
 {
     let count = used.pairs;
     let atoms = used.atoms;

@@ -35,7 +35,7 @@ fn put(out: &mut [u8], w: usize, s: &[u8]) -> usize
 fn put_number(out: &mut [u8], w: usize, n: usize, last: u8) -> usize
     requires { w + 21 ≤ length out.old }
     ensures put { Put out.old out.new w result (number_text n last) }
-    ensures upper_bound { result ≤ w + 21 }
+    ensures bound { result ≤ w + 21 }
 {
     let mut digits = [0u8; 20];
     let k = io::decimal(n as u64, &mut digits);
@@ -48,7 +48,7 @@ fn put_number(out: &mut [u8], w: usize, n: usize, last: u8) -> usize
 fn put_shown(out: &mut [u8], w: usize, node: Shown) -> usize
     requires { w + 21 ≤ length out.old }
     ensures put { Put out.old out.new w result (shown_text node) }
-    ensures upper_bound { result ≤ w + 21 }
+    ensures bound { result ≤ w + 21 }
 {
     match node {
         Shown::Node(n) => put_number(out, w, n as usize, 32),
@@ -60,7 +60,7 @@ fn put_shown(out: &mut [u8], w: usize, node: Shown) -> usize
 pub fn put_row(out: &mut [u8], w: usize, row: Row) -> usize
     requires { w + 126 ≤ length out.old }
     ensures put { Put out.old out.new w result (row_text row) }
-    ensures upper_bound { result ≤ w + 126 }
+    ensures bound { result ≤ w + 126 }
 {
     let node = row.node;
     let w1 = put_number(out, w, row.n, 32);
@@ -75,7 +75,7 @@ pub fn put_row(out: &mut [u8], w: usize, row: Row) -> usize
 pub fn put_head(out: &mut [u8]) -> usize
     requires { 29 ≤ length out.old }
     ensures put { Put out.old out.new 0 result head_text }
-    ensures value { result ≡ 29 }
+    ensures end { result ≡ 29 }
 {
     put(out, 0, b"n code node atoms pairs heap\n")
 }
@@ -84,7 +84,7 @@ pub fn put_head(out: &mut [u8]) -> usize
 pub fn put_end(out: &mut [u8], w: usize, shown: usize, released: usize) -> usize
     requires { w + 46 ≤ length out.old }
     ensures put { Put out.old out.new w result (end_text shown released) }
-    ensures upper_bound { result ≤ w + 46 }
+    ensures bound { result ≤ w + 46 }
 {
     let w1 = put(out, w, b"end ");
     let w2 = put_number(out, w1, shown, 32);
@@ -95,7 +95,7 @@ pub fn put_end(out: &mut [u8], w: usize, shown: usize, released: usize) -> usize
 pub fn put_long(out: &mut [u8]) -> usize
     requires { 9 ≤ length out.old }
     ensures put { Put out.old out.new 0 result long_text }
-    ensures value { result ≡ 9 }
+    ensures end { result ≡ 9 }
 {
     put(out, 0, b"too long\n")
 }

@@ -43,11 +43,11 @@ fn advance(
     out: &mut [u8],
     w: usize,
 ) -> Moved
-    requires ready { Ready m (lists_in bytes starts ends firsts rests) }
-    requires shown_bound { (m.shown < 536870912) × (0 < length rest.now) × (w + 126 ≤ length out.old) }
+    requires ready { Ready m (lists_in bytes.old starts.old ends.old firsts.old rests.old) }
+    requires bounds { (m.shown < 536870912) × (0 < length rest.now) × (w + 126 ≤ length out.old) }
     ensures { Advanced
-        m (lists_in bytes.entry starts.entry ends.entry firsts.entry rests.entry) rest.now out.old w
-        (lists_in bytes.exit starts.exit ends.exit firsts.exit rests.exit) out.new result }
+        m (lists_in bytes.old starts.old ends.old firsts.old rests.old) rest.now out.old w
+        (lists_in bytes.new starts.new ends.new firsts.new rests.new) out.new result }
 {
     let asked = request::read(rest);
     let request = asked.request;
@@ -91,11 +91,11 @@ pub fn run(
     out: &mut [u8],
     w0: usize,
 ) -> Ran
-    requires ready { Ready m0 (lists_in bytes starts ends firsts rests) }
-    requires shown_bound { (4 * m0.shown ≤ at0) × (at0 ≤ length input.now) × (length input.now ≤ 1048576) × (w0 + 46 ≤ length out.old) }
+    requires ready { Ready m0 (lists_in bytes.old starts.old ends.old firsts.old rests.old) }
+    requires bounds { (4 * m0.shown ≤ at0) × (at0 ≤ length input.now) × (length input.now ≤ 1048576) × (w0 + 46 ≤ length out.old) }
     ensures { RanFrom
-        m0 (lists_in bytes.entry starts.entry ends.entry firsts.entry rests.entry) input.now out.old at0 w0
-        (lists_in bytes.exit starts.exit ends.exit firsts.exit rests.exit) out.new result }
+        m0 (lists_in bytes.old starts.old ends.old firsts.old rests.old) input.now out.old at0 w0
+        (lists_in bytes.new starts.new ends.new firsts.new rests.new) out.new result }
 {
     let mut m = m0;
     let mut at = at0;
@@ -134,7 +134,7 @@ pub fn print<W: Write>(
 ) -> Result<usize>
     requires { 201 ≤ length out.old }
     ensures { IfOk result (λ n. n
-        ≡ length (text_of (lists_in bytes.entry starts.entry ends.entry firsts.entry rests.entry) input.now)) }
+        ≡ length (text_of (lists_in bytes.old starts.old ends.old firsts.old rests.old) input.now)) }
 {
     if LONGEST < input.len() {
         let k = text::put_long(out);

@@ -33,13 +33,13 @@ record_words a = a.used.atoms ∷ a.used.pairs ∷ a.used.bytes ∷ a.ghosts.ato
 
 -- behind a reference, as a contract speaks of them
 abbrev pub counts_in : Ref → Counts
-counts_in words = counts_of words.now
+counts_in words = counts_of words
 
 abbrev pub plain_in : Ref → Checkpoint
-plain_in words = plain_of words.now
+plain_in words = plain_of words
 
 abbrev pub record_in : Ref → Allocator
-record_in words = record_of words.now
+record_in words = record_of words
 
 -- ---- a call on the record in words
 

@@ -19,7 +19,7 @@ pub type CountsWords = [usize; 3];
 
 // The record of its words.
 pub fn record(words: &RecordWords) -> Allocator
-    ensures { result ≡ record_in words.entry }
+    ensures { result ≡ record_in words.now }
 {
     let used = Counts {
         atoms: words[0],
@@ -55,7 +55,7 @@ pub fn of_record(a: Allocator) -> RecordWords
 
 // The plain checkpoint of its words.
 pub fn plain(words: &CheckpointWords) -> Checkpoint
-    ensures { result ≡ plain_in words.entry }
+    ensures { result ≡ plain_in words.now }
 {
     let used = Counts {
         atoms: words[0],
@@ -86,7 +86,7 @@ pub fn of_plain(k: Checkpoint) -> CheckpointWords
 
 // The transparent checkpoint of its words.
 pub fn counts(words: &CountsWords) -> Counts
-    ensures { result ≡ counts_in words.entry }
+    ensures { result ≡ counts_in words.now }
 {
     Counts {
         atoms: words[0],
@@ -111,8 +111,8 @@ pub fn new_atom(
     ends: &mut [u32],
     v: &[u8],
 ) -> Answer
-    ensures { words_out (answer_paper result) words.new (store_in bytes.exit starts.exit ends.exit)
-        ≡ in_words (new_atom (record_in words.entry) v.now (store_in bytes.entry starts.entry ends.entry)) }
+    ensures { words_out (answer_paper result) words.new (store_in bytes.new starts.new ends.new)
+        ≡ in_words (new_atom (record_in words.old) v.now (store_in bytes.old starts.old ends.old)) }
 {
     let made = creates::atom::new_atom(record(words), bytes, starts, ends, v);
     let answer = made.answer;
@@ -128,8 +128,8 @@ pub fn new_pair(
     first: u32,
     rest: u32,
 ) -> Answer
-    ensures { words_out (answer_paper result) words.new (pair_store_in firsts.exit rests.exit)
-        ≡ in_words (new_pair (record_in words.entry) first rest (pair_store_in firsts.entry rests.entry)) }
+    ensures { words_out (answer_paper result) words.new (pair_store_in firsts.new rests.new)
+        ≡ in_words (new_pair (record_in words.old) first rest (pair_store_in firsts.old rests.old)) }
 {
     let made = creates::pair::new_pair(record(words), firsts, rests, first, rest);
     let answer = made.answer;

@@ -1,0 +1,14 @@
+-- `creates::atom::new_i64` meets its contract: new_atom on the bytes that the writer wrote. Assumes nothing.
+use mir.Syntax.{w64}
+use mir.ValLaws.{to_z-of_z}
+use Rattle.creates.proofs.Numbers.{written-part, written-length}
+use borrow.Author.Rules.{rules}
+use Rattle.creates.proofs.atom.new_i64.Goals as goal
+
+pub slice_bounds-new_atom-end : goal.slice_bounds-new_atom-end
+slice_bounds-new_atom-end c =
+    written-length _ _ _ _ c.write_i64-n.ensures
+
+pub returns : goal.returns
+returns c =
+    simp (to_z-of_z w64 c.args.x c.ranges.x, c.new_atom.ensures, written-part _ _ _ _ c.write_i64-n.ensures)

@@ -1,0 +1,48 @@
+-- `node::fits_in_small_atom` meets its contract: each return has what the tests before it say, and that settles the five tests of the definition.
+use Prim.Native.Nat.{◌≤◌}
+use mathlib.Core.Path.{◌≡◌}
+use native.Mathlib.Omega.{arith}
+use lib.ListN.{get_or}
+use Rattle.rules.specs.Small.{fits, unfit}
+use Rattle.rules.proofs.Tests.{tests}
+use Rattle.node.proofs.fits_in_small_atom.Goals as goal
+
+pub returns-then-n-eq0 : goal.returns-then-n-eq0
+unfolding fits unfit
+returns-then-n-eq0 c = search (tests, arith)
+
+pub returns-then-n-gt4 : goal.returns-then-n-gt4
+unfolding fits unfit
+returns-then-n-gt4 c = search (tests, arith)
+
+pub returns-then-first-ge128 : goal.returns-then-first-ge128
+unfolding fits unfit
+returns-then-first-ge128 c =
+    let z : get_or c.args.v.now 0 0 ≡ 0 → ⊥ = omega arith in
+    search (tests, arith)
+
+pub returns-then-n-eq1 : goal.returns-then-n-eq1
+unfolding fits unfit
+returns-then-n-eq1 c = search (tests, arith)
+
+pub returns-then-v-lt128 : goal.returns-then-v-lt128
+unfolding fits unfit
+returns-then-v-lt128 c = search (tests, arith)
+
+pub returns-then-first-eq0 : goal.returns-then-first-eq0
+unfolding fits unfit
+returns-then-first-eq0 c =
+    let z : get_or c.args.v.now 0 0 ≤ 3 = omega arith in
+    search (tests, arith, c.big.ensures)
+
+pub returns-then-first-gt3 : goal.returns-then-first-gt3
+unfolding fits unfit
+returns-then-first-gt3 c = search (tests, arith)
+
+pub returns-then-n-eq4 : goal.returns-then-n-eq4
+unfolding fits unfit
+returns-then-n-eq4 c = search (tests, arith, c.big-then-n-eq4.ensures)
+
+pub returns : goal.returns
+unfolding fits unfit
+returns c = search (tests, arith, c.big-2.ensures)

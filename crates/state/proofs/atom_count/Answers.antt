@@ -1,0 +1,10 @@
+-- `state::atom_count` meets its contract. Assumes nothing.
+use Rattle.state.proofs.Laws.{count_uncapped}
+use Rattle.rules.specs.State.{atoms}
+use native.Mathlib.Omega.{arith}
+use borrow.Author.Rules.{rules}
+use Rattle.state.proofs.atom_count.Goals as goal
+
+pub returns : goal.returns
+returns c =
+    simp (c.counted.ensures, c.total.ensures) (count_uncapped c.args.a (atoms c.args.a) λ l. omega arith)

@@ -1,0 +1,11 @@
+-- `state::sound::atoms_sound` meets its contract. Assumes nothing.
+use borrow.Author.Rules.{rules}
+use Rattle.state.proofs.sound.atoms_sound.Goals as goal
+
+pub returns-then-limits_sound : goal.returns-then-limits_sound
+returns-then-limits_sound c =
+    simp (c.fit.ensures, ← c.limits_sound.ensures, c.if-limits_sound.true)
+
+pub returns : goal.returns
+returns c =
+    simp (← c.limits_sound.ensures, c.if-limits_sound.false)
