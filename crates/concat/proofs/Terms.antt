@@ -45,10 +45,10 @@ value_room a t n b at v e h =
 
 -- what copying those bytes into the lent tail leaves of the list
 pub tail_small : (l part e : List ℕ) (v at : ℕ) → part ≡ small_bytes v → at + len_for v ≤ length l
-    → e ≡ take (length part) part ++ drop (length part) (take (length l - at) (drop at l)) → put_mid at (length l - at) l e ≡ over l at (small_bytes v)
+    → e ≡ part ++ drop (length part) (take (length l - at) (drop at l)) → put_mid at (length l - at) l e ≡ over l at (small_bytes v)
 tail_small l part e v at p h k =
     tail_over l (small_bytes v) e at (omega (arith, length-be (len_for v) v))
-    (k ∙ ap (λ (w : List ℕ). take (length w) w ++ drop (length w) (take (length l - at) (drop at l))) p)
+    (k ∙ ap (λ (w : List ℕ). w ++ drop (length w) (take (length l - at) (drop at l))) p)
 
 -- the bytes of the terms from the i-th on
 joined_cons : (a : Allocator) (s : Store) (ns : List ℕ) (i : ℕ) → i < length ns

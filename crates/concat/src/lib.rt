@@ -1,5 +1,6 @@
 // new_concat: the bytes of several atoms, joined.
 #![tactic(auto)]
+
 mod copies;
 mod sizes;
 

@@ -4,7 +4,7 @@ use mathlib.Core.Path.{◌≡◌, refl, ap, ◌∙◌}
 use mathlib.Core.List.{List, ◌++◌}
 use native.Mathlib.Omega.{arith}
 use lib.ListN.{length, take, drop}
-use lib.Seq.{slice, length-slice, take-length, take_at}
+use lib.Seq.{slice, length-slice, take_at}
 use Rattle.rules.specs.declared.Allocator.{Allocator}
 use Rattle.rules.specs.declared.Made.{Made}
 use Rattle.rules.specs.declared.Restored.{Restored}
@@ -15,13 +15,13 @@ use Rattle.rules.specs.Paper.{answer_paper, maybe_paper, made, restored}
 use Rattle.rules.proofs.Lists.{part_slice}
 use Rattle.restores.specs.Course.{accepted}
 
-front : (src dst last : List ℕ) (len : ℕ) → length src ≡ len → last ≡ take (length src) src ++ drop (length src) dst → take len last ≡ src
+front : (src dst last : List ℕ) (len : ℕ) → length src ≡ len → last ≡ src ++ drop (length src) dst → take len last ≡ src
 front src dst last len n e =
-    ap (take len) (e ∙ ap (λ (l : List ℕ). l ++ drop (length src) dst) (take-length src)) ∙ take_at src (drop (length src) dst) len n
+    ap (take len) e ∙ take_at src (drop (length src) dst) len n
 
 -- last is what a copy of the part from s to e left of the array
 pub saved_bytes : (s e : ℕ) (l dst last : List ℕ) → s ≤ e → e ≤ length l
-    → last ≡ take (length (take (e - s) (drop s l))) (take (e - s) (drop s l)) ++ drop (length (take (e - s) (drop s l))) dst
+    → last ≡ take (e - s) (drop s l) ++ drop (length (take (e - s) (drop s l))) dst
     → take (e - s) last ≡ slice s e l
 saved_bytes s e l dst last h k q =
     front (take (e - s) (drop s l)) dst last (e - s) (ap length (part_slice s e l h) ∙ length-slice s e l k) q ∙ part_slice s e l h

@@ -2,12 +2,7 @@
 use Prim.Native.Nat.{ℕ, ◌≤◌}
 use mathlib.Core.Path.{◌≡◌, refl, sym, ◌∙◌}
 use mathlib.Core.Bool.{true}
-use mathlib.Core.List.{[], ◌∷◌}
-use mathlib.Core.Logic.{inl, inr}
 use native.Mathlib.Omega.{arith}
-use borrow.Author.Tests.{eqb-false}
-use types.Run.{OneOf}
-use denote.Enum.Declared.{tag_of}
 use Rattle.rules.specs.declared.Allocator.{Allocator}
 use Rattle.rules.specs.declared.NodeVisitor.{NodeVisitor}
 use Rattle.rules.specs.declared.NodeVisitor.TheVariants.{Buffer, U32, Pair, Refused}
@@ -18,7 +13,6 @@ use Rattle.rules.specs.Restores.{abort, new_course}
 use Rattle.rules.specs.Paper.{visitor_paper}
 use Rattle.rules.proofs.Needs.{need_ind}
 use Rattle.rules.proofs.Args.{ArgIn, arg_in}
-use Rattle.rules.specs.contracts.NodeVisitor.{the_type}
 
 -- beside a sound record, node() is what its argument shows
 pub node_visits : (a : Allocator) (t : AtomSlots) (p : PairSlots) (n : ℕ) → slots_sound a t p ≡ true → node a t p n ≡ visited a p (arg a t n)
@@ -55,13 +49,11 @@ buffer_of a p s e (bytes_arg i u v) h = let p : u ≡ s = cc in let q : v ≡ e 
 buffer_of a p s e (small_arg v) h = let z : ◌≡◌ {A = ℕ} 0 1 = cc in absurd (omega arith)
 
 -- the `else` of `let .. else`: what is no buffer is Aborted
-pub no_buffer : (a : Allocator) (p : PairSlots) (x : Arg) (v : NodeVisitor) → OneOf (1 ∷ 2 ∷ 3 ∷ []) (tag_of the_type v)
+pub no_buffer : (a : Allocator) (p : PairSlots) (x : Arg) (v : NodeVisitor) → ((from to : ℕ) → v ≡ Buffer from to → ⊥)
     → visitor_paper v ≡ visited a p (says x) → says abort ≡ new_course a x
 no_buffer a p (pair_arg i) v k h = refl
 no_buffer a p (small_arg u) v k h = refl
-no_buffer a p (bytes_arg i s e) (Buffer x y) (inl k) h = absurd (eqb-false 0 1 refl k)
-no_buffer a p (bytes_arg i s e) (Buffer x y) (inr (inl k)) h = absurd (eqb-false 0 2 refl k)
-no_buffer a p (bytes_arg i s e) (Buffer x y) (inr (inr k)) h = absurd (eqb-false 0 3 refl k)
+no_buffer a p (bytes_arg i s e) (Buffer x y) k h = absurd (k x y refl)
 no_buffer a p (bytes_arg i s e) (U32 u) k h = let z : ◌≡◌ {A = ℕ} 0 1 = cc in absurd (omega arith)
 no_buffer a p (bytes_arg i s e) (Pair f r) k h = let z : ◌≡◌ {A = ℕ} 0 1 = cc in absurd (omega arith)
 no_buffer a p (bytes_arg i s e) (Refused code m) k h = let z : ◌≡◌ {A = ℕ} 0 1 = cc in absurd (omega arith)

@@ -1,6 +1,7 @@
 // Going back to a checkpoint: plainly, transparently, or with a node that is to be kept. A refusal changes nothing, and no
 // slot is cleared.
 #![tactic(auto)]
+
 mod course;
 
 ghost use Rattle.std.specs.Prelude.{◌≡◌, List, ℕ, length};

@@ -67,6 +67,7 @@ data In (c : ℕ) (k : St) : List Point → Type 0 where
   there : {m : Point} {ms : List Point} → In c k ms → In c k (m ∷ ms)
 
 in_lt : {c n : ℕ} {k : St} {ms : List Point} → Falls n ms → In c k ms → c < n
+in_lt (none {n = n}) i = elim i [ ]
 in_lt (next l f) (here e q) = omega arith
 in_lt (next l f) (there i) = let j = in_lt f i in omega arith
 
@@ -104,6 +105,7 @@ record Reached (k s : St) (left : List Point) : Type 0 where
 
 reach : {c n : ℕ} {k s : St} {ms : List Point} → Falls n ms → Chain ms s → In c k ms → Reached k s (cut_points c ms)
 unfolding cut_points
+reach {c} {n} {k} {s} none ch i = elim i [ ]
 reach {c} {n} {k} {s} (next {m = m} {ms = ms} l f) (over ch o) (here e q) = rw (le-leb m.no c (omega arith))
     (subst (λ (j : St). Reached j s (m ∷ ms)) q (record { wf = wf_of ch; on = o; cut = λ s' p. over ch p }))
 reach {c} {n} {k} {s} (next {m = m} {ms = ms} l f) (over ch o) (there i) =

@@ -93,7 +93,7 @@ module _ (l e : List ℕ) (at k len m : ℕ) (room : at + (1 + k) ≤ length l)
 -- ---- bytes that stand for themselves are written
 
 pub alone_put : (l v e : List ℕ) (at : ℕ) → Alone v ≡ true → at + length (shortest_atom v) ≤ length l
-    → e ≡ take (length v) v ++ drop (length v) (take (length l - at) (drop at l))
+    → e ≡ v ++ drop (length v) (take (length l - at) (drop at l))
     → put_mid at (length l - at) l e ≡ over l at (shortest_atom v)
 alone_put l v e at h room left =
     tail_over l v e at (omega (arith, ap length (alone-form v h))) left ∙ ap (λ (w : List ℕ). over l at w) (sym (alone-form v h))
@@ -117,7 +117,7 @@ module _ (l v : List ℕ) (at : ℕ) (behind : Alone v ≡ false) (room : at + l
     pub bytes_next : from + length v ≡ at + length (shortest_atom v)
     bytes_next = omega (arith, behind-length v behind)
 
-    pub behind_put : (e : List ℕ) → e ≡ take (length v) v ++ drop (length v) (take (length m - from) (drop from m))
+    pub behind_put : (e : List ℕ) → e ≡ v ++ drop (length v) (take (length m - from) (drop from m))
         → put_mid from (length m - from) m e ≡ over l at (shortest_atom v)
     behind_put e left =
         let n : from ≡ at + length front = omega (arith, length-prefix (extra_for (length v)) (length v)) in

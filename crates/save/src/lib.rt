@@ -1,5 +1,6 @@
 // Saving a node as a program file: measured whole first, so that a refused write changes no byte (document 02, W1).
 #![tactic(auto)]
+
 mod atom;
 
 ghost use Rattle.std.specs.Prelude.{◌≡◌, true, ◌+◌, ◌-◌, ◌≤◌, leb, length};

@@ -2,6 +2,7 @@
 // reader of program files hands the record on. By value they would be copied at each call, which costs more than the call
 // (docs/PERFORMANCE.md), and at each level of a file, which costs stack.
 #![tactic(auto)]
+
 ghost use Rattle.std.specs.Prelude.{◌≡◌};
 ghost use Rattle.rules.specs.Lent.{store_in, pair_store_in};
 ghost use Rattle.rules.specs.Creates.{new_atom, new_pair};

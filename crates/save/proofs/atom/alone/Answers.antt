@@ -1,0 +1,11 @@
+-- `save::atom::alone` meets its contract. Assumes nothing.
+use borrow.Author.Tests.{eq-eqb, ne_eqb}
+use borrow.Author.Rules.{rules}
+use Rattle.save.proofs.atom.alone.Goals as goal
+
+pub returns-then-v-eq1 : goal.returns-then-v-eq1
+returns-then-v-eq1 c =
+    simp (eq-eqb _ _ c.if-v-eq1.true)
+
+pub returns : goal.returns
+returns c = simp (ne_eqb _ _ c.if-v-eq1.false)
