@@ -1,6 +1,7 @@
 // Replays the traces that its arguments name, one after the other: the name, and then what `replay` prints of the file.
 // ../make.py writes the files in data, the arguments and what is to be printed, which it reckons by a model in Python.
 #![tactic(auto)]
+
 ghost use Rattle.std.specs.Prelude.{◌≤◌, length, IfSome};
 
 use std::env::FillError;
