@@ -1,6 +1,5 @@
 -- `clvm_allocator::c_load::clvm_load` meets its contract: what the call beneath promises, as numbers.
 use Rattle.clvm_allocator.proofs.Crossed.{read_by}
-use borrow.Author.Rules.{rules}
 use Rattle.clvm_allocator.proofs.c_load.clvm_load.Goals as goal
 
 pub returns : goal.returns

@@ -1,6 +1,5 @@
 -- `clvm_allocator::c_save::clvm_save` meets its contract: what the call beneath promises, as numbers.
 use Rattle.clvm_allocator.proofs.Crossed.{written_by}
-use borrow.Author.Rules.{rules}
 use Rattle.clvm_allocator.proofs.c_save.clvm_save.Goals as goal
 
 pub returns : goal.returns
