@@ -4,12 +4,11 @@ use Rattle.concat.proofs.Puts.{all_put, all-full, refused-is}
 use Rattle.concat.proofs.Scans.{scan_size}
 use Rattle.rules.specs.Paper.{verdict_paper}
 use Rattle.rules.specs.Creates.{scan, joined}
-use Rattle.rules.specs.State.{Store, store, atom_slots}
+use Rattle.rules.specs.State.{store, atom_slots}
 use Rattle.rules.specs.Said.{says, done}
 use lib.ListN.{length}
 use native.Mathlib.Omega.{arith}
 use mathlib.Core.Path.{◌≡◌, sym, ap, ◌∙◌}
-use borrow.Author.Rules.{rules}
 use Rattle.concat.proofs.concat_all.Goals as goal
 
 pub measure-verdict-requires : goal.measure-verdict-requires

@@ -7,7 +7,6 @@ use Rattle.rules.proofs.Limits.{Limits}
 use Rattle.rules.proofs.Sound.{store-lent}
 use Rattle.rules.specs.Creates.{concat_tests}
 use Rattle.rules.specs.Said.{need}
-use borrow.Author.Rules.{rules}
 use Rattle.concat.proofs.concat_tests.Goals as goal
 
 pub returns-then-total-ge-MOST : goal.returns-then-total-ge-MOST

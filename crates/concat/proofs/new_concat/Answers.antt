@@ -4,12 +4,11 @@ use Rattle.concat.proofs.Puts.{tested, concat-put, put_none, put_one, put_all, r
 use Rattle.concat.specs.Concat.{Tested}
 use Rattle.rules.specs.Paper.{verdict_paper}
 use Rattle.rules.specs.Creates.{concat_tests, concat_put, new_concat}
-use Rattle.rules.specs.State.{Store, store, atom_slots}
+use Rattle.rules.specs.State.{store, atom_slots}
 use Rattle.rules.specs.Said.{says, done}
 use lib.ListN.{length}
 use native.Mathlib.Omega.{arith}
 use mathlib.Core.Path.{◌≡◌, sym, ap, ◌∙◌}
-use borrow.Author.Rules.{rules}
 use Rattle.concat.proofs.new_concat.Goals as goal
 
 pub concat_none-requires : goal.concat_none-requires

@@ -3,7 +3,6 @@ use Rattle.concat.proofs.Puts.{Room, room}
 use Rattle.rules.specs.State.{store, atom_slots}
 use lib.ListN.{length}
 use native.Mathlib.Omega.{arith}
-use borrow.Author.Rules.{rules}
 use Rattle.concat.proofs.put_joined.Goals as goal
 
 pub copy_terms-requires : goal.copy_terms-requires

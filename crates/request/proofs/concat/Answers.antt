@@ -11,7 +11,6 @@ use Rattle.rules.specs.Whole as Call
 use Rattle.rules.proofs.Lists.{part_slice}
 use Rattle.request.specs.Bytes.{u32s}
 use Rattle.request.specs.Request.{making, bad, concat_of}
-use borrow.Author.Rules.{rules}
 use Rattle.request.proofs.concat.Goals as goal
 
 pub returns-then-p-lt-SIZE : goal.returns-then-p-lt-SIZE

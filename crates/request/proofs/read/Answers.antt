@@ -6,7 +6,6 @@ use lib.ListN.{length}
 use Rattle.request.specs.Request.{frame_of}
 use Rattle.request.specs.declared.Frame.TheVariants.{Whole}
 use Rattle.request.proofs.Frames.{frame_fits, frame_short}
-use borrow.Author.Rules.{rules}
 use Rattle.request.proofs.read.Goals as goal
 
 pub returns-in_default : goal.returns-in_default

@@ -6,7 +6,6 @@ use lib.Seq.{slice, length-slice}
 use borrow.Author.Tests.{eq-eqb, ne_eqb}
 use Rattle.rules.proofs.Lists.{part_slice}
 use Rattle.request.specs.Request.{numbers_of, request_of}
-use borrow.Author.Rules.{rules}
 use Rattle.request.proofs.request_of.Goals as goal
 
 pub returns-then-kind-eq-ATOM : goal.returns-then-kind-eq-ATOM

@@ -8,7 +8,6 @@ use lib.ListN.{length, take}
 use native.Mathlib.Omega.{arith}
 use mathlib.Core.Path.{◌≡◌, sym, ap, ◌∙◌}
 use Prim.Native.Nat.{◌-◌}
-use borrow.Author.Rules.{rules}
 use Rattle.restores.proofs.copy_node.Goals as goal
 
 pub less_ghosts-less-requires : goal.less_ghosts-less-requires

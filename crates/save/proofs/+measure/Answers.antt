@@ -1,15 +1,14 @@
 -- `save::measure` meets its contract. Assumes nothing.
-use Prim.Native.Nat.{ℕ, ◌-◌, ◌≤◌, ◌<◌}
+use Prim.Native.Nat.{◌-◌, ◌≤◌}
 use mathlib.Core.Path.{◌≡◌, sym, ap, ◌∙◌}
 use native.Mathlib.Omega.{arith}
 use lib.ListN.{length, length-take, length-drop}
 use Rattle.rules.specs.Said.{says, says_of}
-use Rattle.rules.specs.State.{Lists, lists, atom_slots, pair_slots}
+use Rattle.rules.specs.State.{lists, atom_slots, pair_slots}
 use Rattle.rules.specs.Reads.{buffer, number, children, visited, arg}
 use Rattle.rules.specs.Paper.{code_number, number_paper}
 use Rattle.rules.specs.Save.{form_of}
 use Rattle.save.proofs.Forms.{told, seen, buffer_in, number_in, length-fits, form-deep, measured_buffer, measured_number, measured_refused, measured_full, measured_first, measured_rest, measured_pair}
-use borrow.Author.Rules.{rules}
 use Rattle.save.proofs.+measure.Goals as goal
 
 pub returns-then-levels-eq0 : goal.returns-then-levels-eq0

@@ -1,28 +1,18 @@
 -- `save::put` meets its contract. Assumes nothing.
-use Prim.Native.Nat.{ℕ, ◌+◌, ◌-◌, ◌≤◌, ◌<◌}
+use Prim.Native.Nat.{◌+◌, ◌-◌, ◌≤◌, ◌<◌}
 use mathlib.Core.Path.{◌≡◌, ap, ◌∙◌}
 use native.Mathlib.Omega.{arith}
 use lib.ListN.{length, take, drop, length-take, length-drop, length-set}
 use Rattle.rules.specs.Small.{small_bytes}
 use Rattle.rules.specs.Said.{says}
-use Rattle.rules.specs.State.{Lists, lists, atom_slots, pair_slots, over}
+use Rattle.rules.specs.State.{lists, atom_slots, pair_slots, over}
 use Rattle.rules.specs.Reads.{buffer, number, children, visited, arg}
 use Rattle.rules.specs.Serial.{shortest_atom}
 use Rattle.rules.specs.Paper.{code_number}
 use Rattle.rules.specs.Save.{form_of}
 use Rattle.save.specs.Saves.{formed}
-use Rattle.save.proofs.Forms.{seen, buffer_in, number_in, some_level, not_refused, put_buffer, put_number, open_room, first_accepted, rest_room, rest_accepted, pair_put, pair-long, pair-next}
-use borrow.Author.Rules.{rules}
+use Rattle.save.proofs.Forms.{seen, buffer_in, number_in, some_level, not_refused, put_buffer, put_number, open_room, first_accepted, rest_room, rest_accepted, pair_put, pair-next}
 use Rattle.save.proofs.+put.Goals as goal
-
--- left: no goal same-length-3 now
--- same-length-3 : tie.Need-same-length-3
--- same-length-3 c =
---     let (s, found3, at-put, put2) : tie.Start × tie.After-found3 × tie.After-put × tie.After-put2 = search in
---     let g = found3.found3.given.0 in
---     let p = at-put.put in
---     let q = put2.put2 in
---     pair-long s.args.a (five s) s.args.levels s.args.n s.args.file.now s.args.at s.pre.1.1.1 g.0 g.1.0 (pair-seen found3) p.last.1.1.1.1.1.1.1.1.0 p.result p.ensures.0 p.ensures.1 q.last.1.1.1.1.1.1.1.1.0 q.ensures.0
 
 pub slice_bounds-put_form-count : goal.slice_bounds-put_form-count
 slice_bounds-put_form-count t c =

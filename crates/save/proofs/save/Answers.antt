@@ -5,13 +5,12 @@ use mathlib.Core.Bool.{true}
 use native.Mathlib.Omega.{arith}
 use lib.ListN.{length}
 use Rattle.rules.specs.declared.Number.{Number}
-use Rattle.rules.specs.State.{Lists, lists, atom_slots, pair_slots, lists_sound}
+use Rattle.rules.specs.State.{lists, atom_slots, pair_slots, lists_sound}
 use Rattle.rules.specs.Load.{levels_of}
 use Rattle.rules.specs.Save.{form_of}
 use Rattle.rules.specs.Paper.{code_number}
 use Rattle.save.specs.Saves.{saving, Accepted}
 use Rattle.save.proofs.Forms.{told, unsaved, save-refused, save-accepted, saved}
-use borrow.Author.Rules.{rules}
 use Rattle.save.proofs.save.Goals as goal
 
 pub measure-measured-requires : goal.measure-measured-requires

@@ -10,7 +10,6 @@ use lib.ListN.{length}
 use Prim.Native.Nat.{◌≤◌, ◌-◌, ◌+◌}
 use mathlib.Core.Path.{sym, ap, ◌∙◌}
 use native.Mathlib.Omega.{arith}
-use borrow.Author.Rules.{rules}
 use Rattle.concat.proofs.copies.copy_term.Goals as goal
 
 pub copy_within-requires : goal.copy_within-requires

@@ -8,7 +8,6 @@ use lib.ListN.{length, length-take, length-drop}
 use Prim.Native.Nat.{◌+◌, ◌≤◌}
 use native.Mathlib.Omega.{arith}
 use mathlib.Core.Path.{sym, ◌∙◌}
-use borrow.Author.Rules.{rules}
 use Rattle.creates.proofs.atom.store_atom.Goals as goal
 
 pub slice_bounds-copy-count : goal.slice_bounds-copy-count

@@ -6,7 +6,6 @@ use Rattle.rules.specs.Creates.{pair_tests}
 use lib.ListN.{length}
 use native.Mathlib.Omega.{arith}
 use mathlib.Core.Path.{sym, ap, ◌∙◌}
-use borrow.Author.Rules.{rules}
 use Rattle.creates.proofs.pair.new_pair.Goals as goal
 
 pub offset_bounds-firsts-at : goal.offset_bounds-firsts-at

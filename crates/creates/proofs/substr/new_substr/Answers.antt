@@ -8,7 +8,6 @@ use Rattle.rules.specs.Paper.{atom_paper}
 use Rattle.rules.specs.Creates.{substr_tests}
 use native.Mathlib.Omega.{arith}
 use mathlib.Core.Path.{sym, ap, ◌∙◌}
-use borrow.Author.Rules.{rules}
 use Rattle.creates.proofs.substr.new_substr.Goals as goal
 
 pub overflow_add-from : goal.overflow_add-from

@@ -10,7 +10,6 @@ use Rattle.rules.specs.Said.{need}
 use native.Mathlib.Omega.{arith}
 use mathlib.Core.Bool.{◌&&◌}
 use mathlib.Core.Path.{◌≡◌, sym, ◌∙◌}
-use borrow.Author.Rules.{rules}
 use Rattle.creates.proofs.substr.share_range.Goals as goal
 
 pub bounds-starts-at : goal.bounds-starts-at

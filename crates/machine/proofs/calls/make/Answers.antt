@@ -6,12 +6,11 @@ use native.Mathlib.Omega.{arith}
 use lib.ListN.{length, length-take, length-drop}
 use Rattle.rules.specs.State.{lists, atom_slots, pair_slots}
 use Rattle.rules.specs.Creates.{new_atom, new_concat}
-use Rattle.rules.specs.Whole.{St, store_of, alone, on_pairs, on_store, answers_node, answers_none}
+use Rattle.rules.specs.Whole.{store_of, alone, on_pairs, on_store, answers_node, answers_none}
 use Rattle.rules.proofs.Lists.{part_slice}
 use Rattle.request.specs.Bytes.{u32s}
 use Rattle.request.specs.Request.{MakingWithin}
 use Rattle.machine.specs.Machine.{state_in, came_of}
-use borrow.Author.Rules.{rules}
 use Rattle.machine.proofs.calls.make.Goals as goal
 
 pub slice_bounds-new_atom-count : goal.slice_bounds-new_atom-count

@@ -4,7 +4,6 @@ use Rattle.rules.proofs.Lists.{part_slice}
 use Prim.Native.Nat.{◌≤◌}
 use native.Mathlib.Omega.{arith}
 use lib.ListN.{length}
-use borrow.Author.Rules.{rules}
 use Rattle.reads.proofs.eq.bytes_eq.Goals as goal
 
 pub slice_bounds-same-count : goal.slice_bounds-same-count

@@ -8,7 +8,6 @@ use Rattle.rules.specs.Reads.{bytes_arg, small_arg, range, value}
 use Rattle.rules.proofs.Lists.{part_slice}
 use Rattle.rules.proofs.Args.{Inside}
 use Rattle.reads.proofs.Laws.{eq_left}
-use borrow.Author.Rules.{rules}
 use Rattle.reads.proofs.eq.eq_args.Goals as goal
 
 pub slice_bounds-bytes_eq-count : goal.slice_bounds-bytes_eq-count

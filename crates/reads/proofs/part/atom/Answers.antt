@@ -7,7 +7,6 @@ use Rattle.rules.specs.Paper.{atom_paper}
 use Rattle.rules.proofs.Lists.{part_slice}
 use Rattle.rules.proofs.Smalls.{small-length}
 use Rattle.reads.proofs.Laws.{part_says, part_tail}
-use borrow.Author.Rules.{rules}
 use Rattle.reads.proofs.part.atom.Goals as goal
 
 pub slice_bounds-result-count : goal.slice_bounds-result-count

@@ -4,7 +4,6 @@ use native.Mathlib.Omega.{arith}
 use lib.ListN.{length}
 use Rattle.rules.specs.Paper.{atom_paper}
 use Rattle.reads.proofs.Laws.{part_says, whole_scratch}
-use borrow.Author.Rules.{rules}
 use Rattle.reads.proofs.part.filled.Goals as goal
 
 pub put_be-requires : goal.put_be-requires

@@ -4,7 +4,6 @@ use mathlib.Core.Path.{sym, ap, ◌∙◌}
 use native.Mathlib.Omega.{arith}
 use lib.ListN.{length, length-take, length-drop}
 use Rattle.save.proofs.Prefixes.{alone-form, alone_put, prefix-room, bytes-room, bytes_next, behind_put}
-use borrow.Author.Rules.{rules}
 use Rattle.save.proofs.atom.put_form.Goals as goal
 
 pub copy-requires : goal.copy-requires

@@ -3,7 +3,6 @@ use Prim.Native.Nat.{◌+◌, ◌≤◌}
 use native.Mathlib.Omega.{arith}
 use lib.ListN.{length}
 use Rattle.save.proofs.Prefixes.{FirstFits, base_fits, byte_fits, first_put}
-use borrow.Author.Rules.{rules}
 use Rattle.save.proofs.atom.put_prefix.Goals as goal
 
 pub overflow_cast-file : goal.overflow_cast-file

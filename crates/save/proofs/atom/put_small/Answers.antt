@@ -8,7 +8,6 @@ use Rattle.rules.specs.State.{over}
 use Rattle.rules.specs.Serial.{shortest_atom}
 use Rattle.rules.proofs.Smalls.{small-length, length-be}
 use Rattle.rules.proofs.Smalls.{last-part}
-use borrow.Author.Rules.{rules}
 use Rattle.save.proofs.atom.put_small.Goals as goal
 
 pub overflow_sub-from : goal.overflow_sub-from
