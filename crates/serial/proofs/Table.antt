@@ -9,7 +9,7 @@ use lib.Dec.{ltb, eqb}
 use lib.Pow.{pow_mono}
 use borrow.Author.Tests.{ltb-true, ltb-false, eqb-true}
 use Rattle.rules.specs.State.{all}
-use Rattle.rules.specs.Serial.{base_of, limit_of, first_below_lem, extra_for, extra}
+use Rattle.rules.specs.Serial.{base_of, limit_of, first_below, extra_for, extra}
 use Rattle.rules.proofs.Alls.{all-at}
 use Rattle.rules.proofs.Tests.{choice}
 use Rattle.serial.specs.Forms.{First}
@@ -38,8 +38,8 @@ last_base = refl
 
 -- ---- the first bound above a number
 
-pub first_below_lem : (bound : ℕ → ℕ) (n k x : ℕ) → First bound n k x (first_below_lem bound n k x)
-unfolding first_below_lem
+pub first_below_lem : (bound : ℕ → ℕ) (n k x : ℕ) → First bound n k x (first_below bound n k x)
+unfolding first_below
 first_below_lem bound zero k x = record { low = omega arith; high = omega arith; past = λ j p q. absurd (omega arith); found = λ p. absurd (omega arith) }
 first_below_lem bound (suc n) k x = choice (First bound (suc n) k x) (ltb x (bound k)) _ _ here (later _ (first_below_lem bound n (suc k) x))
   where
@@ -59,20 +59,20 @@ first_below_lem bound (suc n) k x = choice (First bound (suc n) k x) (ltb x (bou
     }
 
 -- no bound above x stands before it
-pub first_least : (bound : ℕ → ℕ) (n k x j : ℕ) → k ≤ j → x < bound j → first_below_lem bound n k x ≤ j
-first_least bound n k x j h b = least (dec_lt j (first_below_lem bound n k x))
+pub first_least : (bound : ℕ → ℕ) (n k x j : ℕ) → k ≤ j → x < bound j → first_below bound n k x ≤ j
+first_least bound n k x j h b = least (dec_lt j (first_below bound n k x))
   where
-    least : Dec (j < first_below_lem bound n k x) → first_below_lem bound n k x ≤ j
+    least : Dec (j < first_below bound n k x) → first_below bound n k x ≤ j
     least (yes l) = absurd (omega (arith, (first_below_lem bound n k x).past j h l))
     least (no l) = omega arith
 
 -- where the last bound is above x, the one found is
-pub first_above : (bound : ℕ → ℕ) (n k x : ℕ) → x < bound (k + n) → x < bound (first_below_lem bound n k x)
-first_above bound n k x h = above (dec_lt (first_below_lem bound n k x) (k + n))
+pub first_above : (bound : ℕ → ℕ) (n k x : ℕ) → x < bound (k + n) → x < bound (first_below bound n k x)
+first_above bound n k x h = above (dec_lt (first_below bound n k x) (k + n))
   where
-    above : Dec (first_below_lem bound n k x < k + n) → x < bound (first_below_lem bound n k x)
+    above : Dec (first_below bound n k x < k + n) → x < bound (first_below bound n k x)
     above (yes l) = (first_below_lem bound n k x).found l
-    above (no l) = let e : first_below_lem bound n k x ≡ k + n = omega (arith, (first_below_lem bound n k x).high) in rw e h
+    above (no l) = let e : first_below bound n k x ≡ k + n = omega (arith, (first_below_lem bound n k x).high) in rw e h
 
 -- there is one first only
 pub first_only : {bound : ℕ → ℕ} {n k x r s : ℕ} → First bound n k x r → First bound n k x s → r ≡ s
