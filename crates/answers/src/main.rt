@@ -1,6 +1,7 @@
 // Makes the calls of data/*.txt through the C library's functions and compares every answer, every record and all that is lent with what the
 // file expects; FORMAT.md describes the files. It stops at the first difference.
 #![tactic(auto)]
+
 mod calls;
 mod seen;
 
@@ -8,6 +9,9 @@ use compare::lists::{Bytes, File, Slots};
 use compare::{lists, show};
 use script::desk::{Desk, Window};
 use script::{asked, desk, lines, table};
+use std::io;
+use std::io::Write;
+use std::rt::Files;
 
 fn no_line() -> Window {
     [0; 20480]
@@ -31,8 +35,10 @@ fn no_file() -> File {
 
 // The next line. The steps stand in a row, and each looks for itself whether the line is one of its own: a choice between them here would
 // cost the prover more, since it follows all lists through each arm.
-fn turn(
-    fd: i32,
+fn turn<R: Files, W: Write>(
+    rt: &R,
+    out: &mut W,
+    source: &mut Option<R::File>,
     window: &mut Window,
     desk: &mut Desk,
     bytes: &mut Bytes,
@@ -41,19 +47,20 @@ fn turn(
     firsts: &mut Slots,
     rests: &mut Slots,
     file: &mut File,
-) -> i32 {
-    let fd = lines::next(fd, window, desk);
+) -> io::Result<()> {
+    lines::next(rt, source, window, desk)?;
     asked::understand(window, desk);
     lists::tend(window, desk, bytes, starts, ends, firsts, rests, file);
-    show::faults(fd, window, desk);
+    show::faults(out, source, window, desk)?;
     let mut record = seen::record(desk);
     let came = calls::made(desk, &mut record, bytes, starts, ends, firsts, rests, file);
     seen::keep(desk, came, record);
-    show::settle(fd, window, desk);
-    fd
+    show::settle(out, source, window, desk)
 }
 
-fn main() {
+fn main(rt: HostRuntime) -> io::Result<()> {
+    let mut out = io::writer(&rt);
+    let mut source = None;
     let mut window = no_line();
     let mut desk = no_numbers();
     let mut bytes = no_bytes();
@@ -62,12 +69,13 @@ fn main() {
     let mut firsts = no_slots();
     let mut rests = no_slots();
     let mut file = no_file();
-    let mut fd: i32 = 0;
     let mut turns: u64 = 1000000000;
     desk[desk::FILE] = table::DOCUMENT;
     while 0 < turns {
-        fd = turn(
-            fd,
+        turn(
+            &rt,
+            &mut out,
+            &mut source,
             &mut window,
             &mut desk,
             &mut bytes,
@@ -76,7 +84,8 @@ fn main() {
             &mut firsts,
             &mut rests,
             &mut file,
-        );
+        )?;
         turns = lines::left(turns, &desk);
     }
+    Ok(())
 }

@@ -1,4 +1,5 @@
 // What the calls of a script are lent beside what they must leave, and what is said of a difference.
 #![tactic(auto)]
+
 pub mod lists;
 pub mod show;

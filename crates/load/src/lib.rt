@@ -1,5 +1,6 @@
 // Program files: the serialised form read into the slots through new_atom and new_pair (document 02, W1).
 #![tactic(auto)]
+
 mod token;
 
 ghost use Rattle.std.specs.Prelude.{◌≡◌, ◌≤◌, ◌<◌, length};

@@ -1,5 +1,6 @@
 // The machine of the request program between two records, and what a request does to it and to the lent lists.
 #![tactic(auto)]
+
 mod calls;
 
 ghost use Rattle.std.specs.Prelude.{◌≡◌, length};

@@ -70,7 +70,7 @@ module _ (l e : List ℕ) (at k len m : ℕ) (room : at + (1 + k) ≤ length l)
   unfolding be
   whole =
       let n : length (be (k + 1) len) ≡ k + 1 = length-be (k + 1) len in
-      tail_over l (be (k + 1) len) e at (omega arith) (left ∙ rw (take-length, n)) ∙ rw (add-one, low)
+      tail_over l (be (k + 1) len) e at (omega arith) (left ∙ rw n) ∙ rw (add-one, low)
 
   before : length (take at l) ≡ at
   before = simp length-take (omega arith)

@@ -2,35 +2,38 @@
 ghost use Rattle.std.specs.Prelude.{◌<◌};
 
 use super::desk::{Desk, Window};
-use super::{desk, table};
-use bytes::scan;
+use super::{desk, parse, table};
+use std::io::{Read, Seek, SeekFrom};
+use std::rt::Files;
+use std::{fs, io};
 
 const LONGEST: usize = 20000;
 
 // A file longer than any that is kept here is read no further.
 const FAR: u64 = 4294967296;
 
-fn open(file: u64) -> i32 {
+fn open<R: Files>(rt: &R, file: u64) -> io::Result<R::File> {
     match file {
-        table::DOCUMENT => os::open_read(b"document.txt"),
-        table::RUNS => os::open_read(b"runs.txt"),
-        table::PROGRAMS => os::open_read(b"files.txt"),
-        _ => os::open_read(b"rust.txt"),
+        table::DOCUMENT => fs::open(rt, "document.txt"),
+        table::RUNS => fs::open(rt, "runs.txt"),
+        table::PROGRAMS => fs::open(rt, "files.txt"),
+        _ => fs::open(rt, "rust.txt"),
     }
 }
 
-// The descriptor of the file that is read: the next one is opened where none is. Below 0 where there is no such file.
-fn opened(fd: i32, desk: &mut Desk) -> i32 {
+// Opens the file that is to be read, where none is open. None is then where there is no such file.
+fn opened<R: Files>(rt: &R, source: &mut Option<R::File>, desk: &mut Desk) {
     if desk[desk::OPEN] == 1 {
-        return fd;
+        return;
     }
-    let new = open(desk[desk::FILE]);
-    if new < 0 {
-        return new;
+    match open(rt, desk[desk::FILE]) {
+        Ok(new) => {
+            *source = Some(new);
+            desk::copy(desk, desk::NOUGHTS, desk::OPEN, 12);
+            desk[desk::OPEN] = 1;
+        }
+        Err(_) => *source = None,
     }
-    desk::copy(desk, desk::NOUGHTS, desk::OPEN, 12);
-    desk[desk::OPEN] = 1;
-    new
 }
 
 // What was fetched: how many bytes, and how many of them stand before the first newline.
@@ -44,40 +47,63 @@ pub struct Fetched {
 fn line_end(window: &Window, have: usize) -> usize {
     let s: &[u8] = window;
     if have <= s.len() {
-        return scan::find(s, 0, have, b'\n');
+        return parse::find(s, 0, have, b'\n');
     }
     0
 }
 
-// Lays the line that begins there into the window.
-pub fn fetch(fd: i32, window: &mut Window, at: u64) -> Fetched {
-    if FAR <= at {
-        return Fetched { have: 0, to: 0 };
-    }
-    let got = libc::pread(fd, window, at as i64);
-    let have = io::count(got, window);
-    Fetched {
-        have: have,
-        to: line_end(window, have),
+// How many bytes from a place of the file on were laid into the window. There are none where no file is open.
+fn read_at<F: Read + Seek>(
+    source: &mut Option<F>,
+    window: &mut Window,
+    at: u64,
+) -> io::Result<usize> {
+    match source {
+        Some(file) => {
+            file.seek(SeekFrom::Start(at))?;
+            file.read(window)
+        }
+        None => Ok(0),
     }
 }
 
+// Lays the line that begins there into the window.
+pub fn fetch<F: Read + Seek>(
+    source: &mut Option<F>,
+    window: &mut Window,
+    at: u64,
+) -> io::Result<Fetched> {
+    if FAR <= at {
+        return Ok(Fetched { have: 0, to: 0 });
+    }
+    let have = read_at(source, window, at)?;
+    Ok(Fetched {
+        have: have,
+        to: line_end(window, have),
+    })
+}
+
 // Goes to the next line. One that ends with the file and not with a newline, or is too long, is not understood.
-pub fn next(fd: i32, window: &mut Window, desk: &mut Desk) -> i32 {
+pub fn next<R: Files>(
+    rt: &R,
+    source: &mut Option<R::File>,
+    window: &mut Window,
+    desk: &mut Desk,
+) -> io::Result<()> {
     desk[desk::KIND] = table::NOTHING;
-    let fd = opened(fd, desk);
-    if fd < 0 {
+    opened(rt, source, desk);
+    if source.is_none() {
         desk[desk::KIND] = table::MISSING;
-        return fd;
+        return Ok(());
     }
     let at = desk[desk::NEXT];
-    let line = fetch(fd, window, at);
+    let line = fetch(source, window, at)?;
     desk[desk::AT] = at;
     desk[desk::LENGTH] = line.to as u64;
     desk[desk::NEXT] = desk::sum(at as usize, desk::sum(line.to, 1)) as u64;
     desk::count(desk, desk::LINE, 0);
     desk[desk::KIND] = begun(line);
-    fd
+    Ok(())
 }
 
 // What is known of a line before it is looked at.

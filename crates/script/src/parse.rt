@@ -1,9 +1,8 @@
 // Words of a line: decimal numbers and patterns.
-ghost use Rattle.std.specs.Prelude.{◌≤◌, ◌<◌};
+ghost use Rattle.std.specs.Prelude.{◌≤◌, ◌<◌, length};
 
 use super::desk;
 use super::desk::Desk;
-use bytes::scan;
 
 // A number that was read: whether there is one, its value, and where it ends.
 #[derive(Clone, Copy)]
@@ -153,11 +152,26 @@ pub fn is_mark(t: &[u8], at: usize, mark: u8) -> bool {
     t[at + 1] == mark
 }
 
+// The first place from one on up to another where a byte stands, or else the other.
+pub(crate) fn find(t: &[u8], from: usize, to: usize, b: u8) -> usize
+    requires ordered { from ≤ to }
+    requires within { to ≤ length t.now }
+    ensures low { from ≤ result }
+    ensures high { result ≤ to }
+{
+    for i in from..to {
+        if t[i] == b {
+            return i;
+        }
+    }
+    to
+}
+
 // Where the word ends that begins there.
 pub fn word_end(t: &[u8], at: usize) -> usize {
     let n = t.len();
     if at <= n {
-        return scan::find(t, at, n, b' ');
+        return find(t, at, n, b' ');
     }
     at
 }

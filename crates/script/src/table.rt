@@ -1,4 +1,6 @@
 // What each line begins with, and what stands behind it.
+use std::io;
+use std::io::Write;
 
 // The rows of the calls come first (call.rt has their numbers).
 pub const CALLS: u64 = 39;
@@ -223,11 +225,12 @@ pub fn asks(row: u64) -> Shape {
 }
 
 // Writes a row's name.
-pub fn print(row: u64) {
+pub fn print<W: Write>(out: &mut W, row: u64) -> io::Result<()> {
     let n = length(row);
     let mut i: usize = 0;
     while i < n {
-        io::write_all(1, &[byte(row, i)]);
+        out.write_all(&[byte(row, i)])?;
         i += 1;
     }
+    Ok(())
 }
