@@ -51,7 +51,7 @@ build-shows {s} w (fork x y) o n e =
     let p = build-shows w x o.0 first a in
     after_ind (λ (q : Whole ℕ). Shows s (fork x y) n q.next) (build y (build x s).next)
     (λ rest u. new_pair first rest u) n e₁ λ rest b e₂.
-    pair-shows x y first rest n p (build-shows p.on.wf y o.1 rest b) e₂
+    pair-shows x y first rest n p (build-shows {s = (build x s).next} p.on.wf y o.1 rest b) e₂
 
 -- ---- the atoms of a file of bytes are bytes
 

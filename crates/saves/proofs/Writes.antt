@@ -40,18 +40,18 @@ atom_writes levels room v = need_ind (Writes (suc levels) room (leaf v)) (leb (l
 -- ---- a pair
 
 -- where the room is too short for the first child alone
-short_first : {levels place : ℕ} {x y : Tree} (room : ℕ) → room - 1 < length (shortest x)
+short_first : {levels : ℕ} {x y : Tree} {place : ℕ} (room : ℕ) → room - 1 < length (shortest x)
     → ((p : ℕ) → TooDeep levels x p → room - 1 < p) → TooDeep (suc levels) (fork x y) place → room < place
 short_first room h f (in_first {place = p} d) = omega (arith, f p d)
 short_first room h f (in_rest g d) = omega arith
 
 -- and where it is too short for the rest
-short_rest : {levels place : ℕ} {x y : Tree} (room : ℕ) → height x ≤ levels → length (shortest x) ≤ room - 1 → 1 ≤ room
+short_rest : {levels : ℕ} {x y : Tree} {place : ℕ} (room : ℕ) → height x ≤ levels → length (shortest x) ≤ room - 1 → 1 ≤ room
     → ((p : ℕ) → TooDeep levels y p → room - 1 - length (shortest x) < p) → TooDeep (suc levels) (fork x y) place → room < place
 short_rest room g h o f (in_first d) = absurd (omega (arith, deep-height d))
 short_rest room g h o f (in_rest {place = p} k d) = omega (arith, f p d)
 
-no_room : {levels place : ℕ} {x y : Tree} → TooDeep (suc levels) (fork x y) place → 0 < place
+no_room : {levels : ℕ} {x y : Tree} {place : ℕ} → TooDeep (suc levels) (fork x y) place → 0 < place
 no_room (in_first d) = omega arith
 no_room (in_rest g d) = omega arith
 
