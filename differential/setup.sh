@@ -9,7 +9,7 @@ export CARGO_TARGET_DIR=$root/target/differential
 stale() {
     [ -f "$CLVM_ALLOCATOR_LIB" ] || return 0
     [ "$CLVM_ALLOCATOR_LIB" = "$root/target/staticlib/libclvm_allocator.a" ] &&
-        [ -n "$(find "$root/crates" -path '*/src/*' -newer "$CLVM_ALLOCATOR_LIB" -print -quit)" ]
+        [ -n "$(find "$root/crates" -name out -prune -o -path '*/src/*' -newer "$CLVM_ALLOCATOR_LIB" -print -quit)" ]
 }
 
 # find_parts: the source as it was published, and the archive, made anew if it is stale
@@ -18,7 +18,7 @@ find_parts() {
     (cd "$CLVM_RS_SRC" && sha256sum --check --quiet "$root/differential/SHA256SUMS") || return 2
     mkdir -p "$CARGO_TARGET_DIR"
     if stale; then
-        (cd "$root" && rt staticlib clvm_allocator) >"$CARGO_TARGET_DIR/staticlib.log" 2>&1 || {
+        "$root/tools/archive" >"$CARGO_TARGET_DIR/staticlib.log" 2>&1 || {
             tail -n 20 "$CARGO_TARGET_DIR/staticlib.log"
             return 2
         }

@@ -29,7 +29,7 @@ fn main() {
     println!("cargo:rerun-if-changed={}", archive.display());
     if !archive.is_file() {
         eprintln!("error: {} is missing", archive.display());
-        eprintln!("help: write it with `rt staticlib clvm_allocator` in the repository's root,");
+        eprintln!("help: write it with `tools/archive` in the repository's root,");
         eprintln!("help: or name the archive, or its folder, by the variable {VARIABLE}");
         exit(1);
     }

@@ -1,12 +1,14 @@
 #!/usr/bin/env python3
-# Writes the program files of the folder data, in the serialised form: some that the panel shows, and some that it refuses.
+# Writes the program files of the folder data, in the serialised form: some that the panel shows, and some that it refuses. The same go to
+# examples/programs.
 #
 #   python3 crates/panel/make.py
 import os
 import sys
 
 HERE = os.path.dirname(os.path.realpath(__file__))
-sys.path.insert(0, os.path.join(HERE, os.pardir, os.pardir))
+ROOT = os.path.join(HERE, os.pardir, os.pardir)
+sys.path.insert(0, ROOT)
 
 from model.allocator import integer
 from model.files import form, prefixed
@@ -52,5 +54,6 @@ FILES = {
 
 if __name__ == "__main__":
     for name, content in FILES.items():
-        with open(os.path.join(HERE, "data", name + ".clvm"), "wb") as f:
-            f.write(content)
+        for folder in (os.path.join(HERE, "data"), os.path.join(ROOT, "examples", "programs")):
+            with open(os.path.join(folder, name + ".clvm"), "wb") as f:
+                f.write(content)

@@ -1,7 +1,7 @@
 #!/usr/bin/env python3
 # Writes the traces that the program `traces` replays, data/NAME.trace, its arguments, args, and what it must print, stdout:
 # `python3 crates/traces/make.py`. The texts are reckoned by the model of documents 01 and 02 in the folder model, which shares
-# nothing with the code. To see where the program prints something else: diff crates/traces/stdout target/log/traces.stdout
+# nothing with the code. To see where the program prints something else, after `rt ci`: diff crates/traces/stdout crates/traces/out/stdout
 #
 # Codes that no input reaches: 1, since a run's record and slots stay sound (proved: machine/proofs/Kept). 2 is reached only by a
 # concat's size: new_atom and new_small_number would need a heap near 2^32, and 65,536 bytes of records cannot count so much; the 2

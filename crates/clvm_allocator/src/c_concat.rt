@@ -9,8 +9,7 @@ use super::answers::CAnswer;
 use super::crossing;
 use words::RecordWords;
 
-#[unsafe(no_mangle)]
-pub extern "C" fn clvm_new_concat(
+pub fn clvm_new_concat(
     a: &mut RecordWords,
     bytes: &mut [u8],
     starts: &mut [u32],

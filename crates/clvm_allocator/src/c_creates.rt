@@ -12,8 +12,7 @@ use super::crossing;
 use creates::{atom, ghosts, pair, substr};
 use words::RecordWords;
 
-#[unsafe(no_mangle)]
-pub extern "C" fn clvm_new_atom(
+pub fn clvm_new_atom(
     a: &mut RecordWords,
     bytes: &mut [u8],
     starts: &mut [u32],
@@ -27,8 +26,7 @@ pub extern "C" fn clvm_new_atom(
     crossing::of_answer(answer)
 }
 
-#[unsafe(no_mangle)]
-pub extern "C" fn clvm_new_small_number(a: &mut RecordWords, v: u32) -> CAnswer
+pub fn clvm_new_small_number(a: &mut RecordWords, v: u32) -> CAnswer
     ensures { given result a.new no_lists ≡ crossed answer_c (new_small_number (record_in a.old) v) }
 {
     let made = atom::new_small_number(words::record(a), v);
@@ -38,8 +36,7 @@ pub extern "C" fn clvm_new_small_number(a: &mut RecordWords, v: u32) -> CAnswer
 }
 
 // The integers go through clvm_new_atom, which changes the words in their place; the calls beneath would hand the record on by value.
-#[unsafe(no_mangle)]
-pub extern "C" fn clvm_new_u64(
+pub fn clvm_new_u64(
     a: &mut RecordWords,
     bytes: &mut [u8],
     starts: &mut [u32],
@@ -54,8 +51,7 @@ pub extern "C" fn clvm_new_u64(
     clvm_new_atom(a, bytes, starts, ends, &buf[..n])
 }
 
-#[unsafe(no_mangle)]
-pub extern "C" fn clvm_new_i64(
+pub fn clvm_new_i64(
     a: &mut RecordWords,
     bytes: &mut [u8],
     starts: &mut [u32],
@@ -70,8 +66,7 @@ pub extern "C" fn clvm_new_i64(
     clvm_new_atom(a, bytes, starts, ends, &buf[..n])
 }
 
-#[unsafe(no_mangle)]
-pub extern "C" fn clvm_new_pair(
+pub fn clvm_new_pair(
     a: &mut RecordWords,
     firsts: &mut [u32],
     rests: &mut [u32],
@@ -87,8 +82,7 @@ pub extern "C" fn clvm_new_pair(
     crossing::of_answer(answer)
 }
 
-#[unsafe(no_mangle)]
-pub extern "C" fn clvm_add_ghost_pair(a: &mut RecordWords, amount: usize) -> CAnswer
+pub fn clvm_add_ghost_pair(a: &mut RecordWords, amount: usize) -> CAnswer
     ensures { given result a.new no_lists ≡ crossed done_c (add_ghost_pair (record_in a.old) amount) }
 {
     let changed = ghosts::add_ghost_pair(words::record(a), amount);
@@ -97,8 +91,7 @@ pub extern "C" fn clvm_add_ghost_pair(a: &mut RecordWords, amount: usize) -> CAn
     crossing::of_verdict(verdict)
 }
 
-#[unsafe(no_mangle)]
-pub extern "C" fn clvm_remove_ghost_pair(a: &mut RecordWords, amount: usize) -> CAnswer
+pub fn clvm_remove_ghost_pair(a: &mut RecordWords, amount: usize) -> CAnswer
     ensures { given result a.new no_lists ≡ crossed done_c (remove_ghost_pair (record_in a.old) amount) }
 {
     let changed = ghosts::remove_ghost_pair(words::record(a), amount);
@@ -107,8 +100,7 @@ pub extern "C" fn clvm_remove_ghost_pair(a: &mut RecordWords, amount: usize) -> 
     crossing::of_verdict(verdict)
 }
 
-#[unsafe(no_mangle)]
-pub extern "C" fn clvm_add_ghost_atom(a: &mut RecordWords, amount: usize) -> CAnswer
+pub fn clvm_add_ghost_atom(a: &mut RecordWords, amount: usize) -> CAnswer
     ensures { given result a.new no_lists ≡ crossed done_c (add_ghost_atom (record_in a.old) amount) }
 {
     let changed = ghosts::add_ghost_atom(words::record(a), amount);
@@ -117,8 +109,7 @@ pub extern "C" fn clvm_add_ghost_atom(a: &mut RecordWords, amount: usize) -> CAn
     crossing::of_verdict(verdict)
 }
 
-#[unsafe(no_mangle)]
-pub extern "C" fn clvm_new_substr(
+pub fn clvm_new_substr(
     a: &mut RecordWords,
     bytes: &mut [u8],
     starts: &mut [u32],

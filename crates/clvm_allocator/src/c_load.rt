@@ -9,8 +9,7 @@ use super::answers::CLoaded;
 use super::crossing;
 use words::RecordWords;
 
-#[unsafe(no_mangle)]
-pub extern "C" fn clvm_load(
+pub fn clvm_load(
     a: &mut RecordWords,
     bytes: &mut [u8],
     starts: &mut [u32],

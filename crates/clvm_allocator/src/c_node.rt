@@ -8,48 +8,42 @@ ghost use Rattle.clvm_allocator.specs.Answers.{bit, kind_number, number_c, optio
 use super::answers::{CNumber, COption};
 use super::crossing;
 
-#[unsafe(no_mangle)]
-pub extern "C" fn clvm_object_type(n: u32) -> CNumber
+pub fn clvm_object_type(n: u32) -> CNumber
     ensures { result ≡ number_c (says_of kind_number (object_type n)) }
 {
     let found = node::object_type(n);
     crossing::of_kind(found)
 }
 
-#[unsafe(no_mangle)]
-pub extern "C" fn clvm_index(n: u32) -> CNumber
+pub fn clvm_index(n: u32) -> CNumber
     ensures { result ≡ number_c (node_index n) }
 {
     let found = node::index(n);
     crossing::of_number(found)
 }
 
-#[unsafe(no_mangle)]
-pub extern "C" fn clvm_is_atom(n: u32) -> CNumber
+pub fn clvm_is_atom(n: u32) -> CNumber
     ensures { result ≡ number_c (says_of bit (is_atom n)) }
 {
     let found = node::is_atom(n);
     crossing::of_truth(found)
 }
 
-#[unsafe(no_mangle)]
-pub extern "C" fn clvm_is_pair(n: u32) -> CNumber
+pub fn clvm_is_pair(n: u32) -> CNumber
     ensures { result ≡ number_c (says_of bit (is_pair n)) }
 {
     let found = node::is_pair(n);
     crossing::of_truth(found)
 }
 
-#[unsafe(no_mangle)]
-pub extern "C" fn clvm_fits_in_small_atom(v: &[u8]) -> COption
+pub fn clvm_fits_in_small_atom(v: &[u8]) -> COption
     ensures { result ≡ option_c (says (fits v.now)) }
 {
     let found = node::fits_in_small_atom(v);
     crossing::of_fits(found)
 }
 
-#[unsafe(no_mangle)]
-pub extern "C" fn clvm_len_for_value(v: u32) -> usize
+pub fn clvm_len_for_value(v: u32) -> usize
     ensures { result ≡ len_for v }
 {
     node::len_for_value(v)

@@ -13,8 +13,7 @@ use reads::{eq, part};
 use rules::Atom;
 use words::{CountsWords, RecordWords};
 
-#[unsafe(no_mangle)]
-pub extern "C" fn clvm_node(
+pub fn clvm_node(
     a: &RecordWords,
     starts: &[u32],
     ends: &[u32],
@@ -29,8 +28,7 @@ pub extern "C" fn clvm_node(
     crossing::of_visitor(found)
 }
 
-#[unsafe(no_mangle)]
-pub extern "C" fn clvm_sexp(a: &RecordWords, firsts: &[u32], rests: &[u32], n: u32) -> CChildren
+pub fn clvm_sexp(a: &RecordWords, firsts: &[u32], rests: &[u32], n: u32) -> CChildren
     ensures { result ≡ children_c (sexp_rule (record_in a.now) (pair_slots_in firsts.now rests.now) n) }
 {
     let found = reads::sexp(words::record(a), firsts, rests, n);
@@ -38,16 +36,14 @@ pub extern "C" fn clvm_sexp(a: &RecordWords, firsts: &[u32], rests: &[u32], n: u
 }
 
 // An atom has no next, as it is no pair: to C that is sexp.
-#[unsafe(no_mangle)]
-pub extern "C" fn clvm_next(a: &RecordWords, firsts: &[u32], rests: &[u32], n: u32) -> CChildren
+pub fn clvm_next(a: &RecordWords, firsts: &[u32], rests: &[u32], n: u32) -> CChildren
     ensures { result ≡ children_c (sexp_rule (record_in a.now) (pair_slots_in firsts.now rests.now) n) }
 {
     clvm_sexp(a, firsts, rests, n)
 }
 
 // A part cannot be handed back as such: C gets its place, offset and length.
-#[unsafe(no_mangle)]
-pub extern "C" fn clvm_atom(
+pub fn clvm_atom(
     a: &RecordWords,
     bytes: &[u8],
     starts: &[u32],
@@ -70,16 +66,14 @@ pub extern "C" fn clvm_atom(
     }
 }
 
-#[unsafe(no_mangle)]
-pub extern "C" fn clvm_atom_len(a: &RecordWords, starts: &[u32], ends: &[u32], n: u32) -> CNumber
+pub fn clvm_atom_len(a: &RecordWords, starts: &[u32], ends: &[u32], n: u32) -> CNumber
     ensures { result ≡ number_c (atom_len (record_in a.now) (atom_slots_in starts.now ends.now) n) }
 {
     let found = reads::atom_len(words::record(a), starts, ends, n);
     crossing::of_number(found)
 }
 
-#[unsafe(no_mangle)]
-pub extern "C" fn clvm_small_number(
+pub fn clvm_small_number(
     a: &RecordWords,
     bytes: &[u8],
     starts: &[u32],
@@ -93,8 +87,7 @@ pub extern "C" fn clvm_small_number(
     crossing::of_small(found)
 }
 
-#[unsafe(no_mangle)]
-pub extern "C" fn clvm_atom_eq(
+pub fn clvm_atom_eq(
     a: &RecordWords,
     bytes: &[u8],
     starts: &[u32],
@@ -109,8 +102,7 @@ pub extern "C" fn clvm_atom_eq(
     crossing::of_truth(found)
 }
 
-#[unsafe(no_mangle)]
-pub extern "C" fn clvm_checkpoint_node_status(
+pub fn clvm_checkpoint_node_status(
     a: &RecordWords,
     starts: &[u32],
     ends: &[u32],

@@ -10,8 +10,7 @@ use super::answers::{CAnswer, CRestored};
 use super::crossing;
 use words::{CheckpointWords, CountsWords, RecordWords};
 
-#[unsafe(no_mangle)]
-pub extern "C" fn clvm_restore_checkpoint(
+pub fn clvm_restore_checkpoint(
     a: &mut RecordWords,
     starts: &[u32],
     ends: &[u32],
@@ -35,8 +34,7 @@ pub extern "C" fn clvm_restore_checkpoint(
     crossing::of_verdict(verdict)
 }
 
-#[unsafe(no_mangle)]
-pub extern "C" fn clvm_restore_transparent_checkpoint(
+pub fn clvm_restore_transparent_checkpoint(
     a: &mut RecordWords,
     starts: &[u32],
     ends: &[u32],
@@ -61,8 +59,7 @@ pub extern "C" fn clvm_restore_transparent_checkpoint(
     crossing::of_verdict(verdict)
 }
 
-#[unsafe(no_mangle)]
-pub extern "C" fn clvm_maybe_restore_with_node(
+pub fn clvm_maybe_restore_with_node(
     a: &mut RecordWords,
     bytes: &mut [u8],
     starts: &mut [u32],

@@ -10,8 +10,7 @@ use super::answers::CNumber;
 use super::crossing;
 use words::RecordWords;
 
-#[unsafe(no_mangle)]
-pub extern "C" fn clvm_save(
+pub fn clvm_save(
     a: &RecordWords,
     bytes: &[u8],
     starts: &[u32],

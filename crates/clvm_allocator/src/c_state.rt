@@ -3,8 +3,8 @@ ghost use Rattle.std.specs.Prelude.{◌≡◌};
 ghost use Rattle.rules.specs.Said.{no_lists};
 ghost use Rattle.rules.specs.State.{well_formed};
 ghost use Rattle.rules.specs.Lent.{lists_in};
-ghost use Rattle.rules.specs.Record.{atom_count, allocated_atom_count, pair_count, allocated_pair_count, heap_size, allocated_heap_size, checkpoint as checkpoint_rule};
-ghost use Rattle.rules.specs.Record.{transparent_checkpoint, new_limited};
+ghost use Rattle.rules.specs.Record.{atom_count, allocated_atom_count, pair_count, allocated_pair_count, heap_size, allocated_heap_size};
+ghost use Rattle.rules.specs.Record.{checkpoint as checkpoint_rule, transparent_checkpoint, new_limited};
 ghost use Rattle.clvm_allocator.specs.Answers.{bit, number_c, done_c, given, crossed, taken_c};
 ghost use Rattle.words.specs.Words.{record_in, plain_words, counts_words};
 
@@ -13,8 +13,7 @@ use super::crossing;
 use rules::{Taken, TakenCounts};
 use words::{CheckpointWords, CountsWords, RecordWords};
 
-#[unsafe(no_mangle)]
-pub extern "C" fn clvm_new_limited(a: &mut RecordWords, limit: usize) -> CAnswer
+pub fn clvm_new_limited(a: &mut RecordWords, limit: usize) -> CAnswer
     ensures { given result a.new no_lists ≡ crossed done_c (new_limited limit) }
 {
     let changed = state::new_limited(limit);
@@ -23,48 +22,42 @@ pub extern "C" fn clvm_new_limited(a: &mut RecordWords, limit: usize) -> CAnswer
     crossing::of_verdict(verdict)
 }
 
-#[unsafe(no_mangle)]
-pub extern "C" fn clvm_atom_count(a: &RecordWords) -> CNumber
+pub fn clvm_atom_count(a: &RecordWords) -> CNumber
     ensures { result ≡ number_c (atom_count (record_in a.now)) }
 {
     let found = state::atom_count(words::record(a));
     crossing::of_number(found)
 }
 
-#[unsafe(no_mangle)]
-pub extern "C" fn clvm_allocated_atom_count(a: &RecordWords) -> CNumber
+pub fn clvm_allocated_atom_count(a: &RecordWords) -> CNumber
     ensures { result ≡ number_c (allocated_atom_count (record_in a.now)) }
 {
     let found = state::allocated_atom_count(words::record(a));
     crossing::of_number(found)
 }
 
-#[unsafe(no_mangle)]
-pub extern "C" fn clvm_pair_count(a: &RecordWords) -> CNumber
+pub fn clvm_pair_count(a: &RecordWords) -> CNumber
     ensures { result ≡ number_c (pair_count (record_in a.now)) }
 {
     let found = state::pair_count(words::record(a));
     crossing::of_number(found)
 }
 
-#[unsafe(no_mangle)]
-pub extern "C" fn clvm_allocated_pair_count(a: &RecordWords) -> CNumber
+pub fn clvm_allocated_pair_count(a: &RecordWords) -> CNumber
     ensures { result ≡ number_c (allocated_pair_count (record_in a.now)) }
 {
     let found = state::allocated_pair_count(words::record(a));
     crossing::of_number(found)
 }
 
-#[unsafe(no_mangle)]
-pub extern "C" fn clvm_heap_size(a: &RecordWords) -> CNumber
+pub fn clvm_heap_size(a: &RecordWords) -> CNumber
     ensures { result ≡ number_c (heap_size (record_in a.now)) }
 {
     let found = state::heap_size(words::record(a));
     crossing::of_number(found)
 }
 
-#[unsafe(no_mangle)]
-pub extern "C" fn clvm_allocated_heap_size(a: &RecordWords) -> CNumber
+pub fn clvm_allocated_heap_size(a: &RecordWords) -> CNumber
     ensures { result ≡ number_c (allocated_heap_size (record_in a.now)) }
 {
     let found = state::allocated_heap_size(words::record(a));
@@ -72,8 +65,7 @@ pub extern "C" fn clvm_allocated_heap_size(a: &RecordWords) -> CNumber
 }
 
 // In C a type has the name clvm_checkpoint. A refusal leaves k as it was.
-#[unsafe(no_mangle)]
-pub extern "C" fn clvm_checkpoint_of(a: &RecordWords, k: &mut CheckpointWords) -> CAnswer
+pub fn clvm_checkpoint_of(a: &RecordWords, k: &mut CheckpointWords) -> CAnswer
     ensures { given result k.new no_lists
         ≡ taken_c plain_words k.old (checkpoint_rule (record_in a.now)) }
 {
@@ -87,8 +79,7 @@ pub extern "C" fn clvm_checkpoint_of(a: &RecordWords, k: &mut CheckpointWords) -
     }
 }
 
-#[unsafe(no_mangle)]
-pub extern "C" fn clvm_transparent_checkpoint(a: &RecordWords, k: &mut CountsWords) -> CAnswer
+pub fn clvm_transparent_checkpoint(a: &RecordWords, k: &mut CountsWords) -> CAnswer
     ensures { given result k.new no_lists
         ≡ taken_c counts_words k.old (transparent_checkpoint (record_in a.now)) }
 {
@@ -103,8 +94,7 @@ pub extern "C" fn clvm_transparent_checkpoint(a: &RecordWords, k: &mut CountsWor
 }
 
 // 1 for yes, 0 for no.
-#[unsafe(no_mangle)]
-pub extern "C" fn clvm_well_formed(
+pub fn clvm_well_formed(
     a: &RecordWords,
     bytes: &[u8],
     starts: &[u32],

@@ -1,8 +1,8 @@
 // What each enum of the rules becomes as it crosses to C.
 ghost use Rattle.std.specs.Prelude.{◌≡◌};
 ghost use Rattle.rules.specs.Said.{says, refuses, says_of, done};
-ghost use Rattle.rules.specs.Paper.{code_number, number_paper, truth_paper, object_type_paper, fits_paper, small_number_paper, visitor_paper, sexp_paper, status_paper};
-ghost use Rattle.rules.specs.Paper.{answer_paper, verdict_paper, maybe_paper};
+ghost use Rattle.rules.specs.Paper.{code_number, number_paper, truth_paper, object_type_paper, fits_paper, small_number_paper, visitor_paper, sexp_paper};
+ghost use Rattle.rules.specs.Paper.{status_paper, answer_paper, verdict_paper, maybe_paper};
 ghost use Rattle.clvm_allocator.specs.Answers.{bit, kind_number, number_c, option_c, visited_c, children_c, part_at, part_c, standing, status_c, answer_c};
 ghost use Rattle.clvm_allocator.specs.Answers.{loaded_c, done_c, went, restored_c};
 

@@ -1,6 +1,6 @@
 -- What the tests of new_substr tell, and the part of a small atom's bytes that the code takes. Assumes nothing.
 use Prim.Native.Nat.{ℕ, ◌+◌, ◌-◌, ◌≤◌, ◌<◌}
-use mathlib.Core.Path.{◌≡◌, refl, sym, ap, ◌∙◌}
+use mathlib.Core.Path.{◌≡◌, sym, ap, ◌∙◌}
 use mathlib.Core.Bool.{◌&&◌}
 use mathlib.Core.List.{List, ◌++◌}
 use native.Mathlib.Omega.{arith}

@@ -1,5 +1,6 @@
 // The shortest big-endian two's complement bytes of a u64 and of an i64.
 #![tactic(auto)]
+
 ghost use Rattle.std.specs.Prelude.{◌≡◌, ◌^◌, ◌≤◌, ◌<◌, ltb, pos, length};
 ghost use Rattle.std.specs.Int.Signed.{mag};
 ghost use Rattle.std.specs.Int.{w64};

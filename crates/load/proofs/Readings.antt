@@ -8,7 +8,6 @@ use borrow.Author.Tests.{eq-eqb, ne_eqb}
 use lib.ListN.{length}
 use Rattle.rules.specs.declared.Allocator.{Allocator}
 use Rattle.rules.specs.declared.Answer.{Answer}
-use Rattle.rules.specs.declared.Answer.TheVariants as Answer
 use Rattle.rules.specs.declared.Code.{Code}
 use Rattle.rules.specs.Node.{nil}
 use Rattle.rules.specs.Said.{says, refuses, Out}

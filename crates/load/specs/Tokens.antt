@@ -1,7 +1,6 @@
 -- What each case of the code's Token is in the definition.
 use Rattle.rules.specs.Serial as Rule
 use Rattle.load.specs.declared.token.Token.{Token}
-use Rattle.load.specs.declared.token.Token.TheVariants as Token
 
 abbrev pub token_paper : Token → Rule.Token
 token_paper Token.Broken = Rule.broken

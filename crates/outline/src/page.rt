@@ -1,102 +1,102 @@
 // Text on its way to standard output. It waits in a block that is written out when it is full, for a write a byte would be slow.
-// Each function takes how many bytes of the block wait, and answers how many then do.
-ghost use Rattle.std.specs.Prelude.{◌≤◌, ◌<◌, length};
+// Each function takes the writer and how many bytes of the block wait, and answers how many then do, or why a write failed.
+ghost use Rattle.std.specs.Prelude.{◌≤◌, ◌<◌, length, IfOk};
 
-use libc::STDOUT_FILENO;
+use std::io::{Result, Write};
 
 const BLOCK: usize = 65536;
 
 pub type Block = [u8; BLOCK];
 
 // Where the next byte goes: a full block is written out first.
-fn room(out: &Block, w: usize) -> usize
+fn room<W: Write>(to: &mut W, out: &Block, w: usize) -> Result<usize>
     requires { w ≤ 65536 }
-    ensures { result < 65536 }
+    ensures { IfOk result (λ k. k < 65536) }
 {
     if w < BLOCK {
-        return w;
+        return Ok(w);
     }
-    io::write_all(STDOUT_FILENO, out);
-    0
+    to.write_all(out)?;
+    Ok(0)
 }
 
-fn put_byte(out: &mut Block, w: usize, b: u8) -> usize
+fn put_byte<W: Write>(to: &mut W, out: &mut Block, w: usize, b: u8) -> Result<usize>
     requires { w ≤ 65536 }
-    ensures { result ≤ 65536 }
+    ensures { IfOk result (λ k. k ≤ 65536) }
 {
-    let at = room(out, w);
+    let at = room(to, out, w)?;
     out[at] = b;
-    at + 1
+    Ok(at + 1)
 }
 
-pub fn put(out: &mut Block, w: usize, s: &[u8]) -> usize
+pub fn put<W: Write>(to: &mut W, out: &mut Block, w: usize, s: &[u8]) -> Result<usize>
     requires { w ≤ 65536 }
-    ensures { result ≤ 65536 }
+    ensures { IfOk result (λ k. k ≤ 65536) }
 {
     let mut at = w;
     let mut i = 0;
     while i < s.len() {
-        at = put_byte(out, at, s[i]);
+        at = put_byte(to, out, at, s[i])?;
         i += 1;
     }
-    at
+    Ok(at)
 }
 
-pub fn put_spaces(out: &mut Block, w: usize, n: usize) -> usize
+pub fn put_spaces<W: Write>(to: &mut W, out: &mut Block, w: usize, n: usize) -> Result<usize>
     requires { w ≤ 65536 }
-    ensures { result ≤ 65536 }
+    ensures { IfOk result (λ k. k ≤ 65536) }
 {
     let mut at = w;
     let mut i = 0;
     while i < n {
-        at = put_byte(out, at, b' ');
+        at = put_byte(to, out, at, b' ')?;
         i += 1;
     }
-    at
+    Ok(at)
 }
 
-pub fn put_number(out: &mut Block, w: usize, n: usize) -> usize
+pub fn put_number<W: Write>(to: &mut W, out: &mut Block, w: usize, n: usize) -> Result<usize>
     requires { w ≤ 65536 }
-    ensures { result ≤ 65536 }
+    ensures { IfOk result (λ k. k ≤ 65536) }
 {
     let mut digits = [0u8; 20];
     let k = io::decimal(n as u64, &mut digits);
-    put(out, w, &digits[..k])
+    put(to, out, w, &digits[..k])
 }
 
-fn put_hex_byte(out: &mut Block, w: usize, b: u8) -> usize
+fn put_hex_byte<W: Write>(to: &mut W, out: &mut Block, w: usize, b: u8) -> Result<usize>
     requires { w ≤ 65536 }
-    ensures { result ≤ 65536 }
+    ensures { IfOk result (λ k. k ≤ 65536) }
 {
     let mut digits = [0u8; 16];
     let k = io::hex(b as u64, 2, &mut digits);
-    put(out, w, &digits[..k])
+    put(to, out, w, &digits[..k])
 }
 
 // Two digits a byte.
-pub fn put_hex(out: &mut Block, w: usize, s: &[u8]) -> usize
+pub fn put_hex<W: Write>(to: &mut W, out: &mut Block, w: usize, s: &[u8]) -> Result<usize>
     requires { w ≤ 65536 }
-    ensures { result ≤ 65536 }
+    ensures { IfOk result (λ k. k ≤ 65536) }
 {
     let mut at = w;
     let mut i = 0;
     while i < s.len() {
-        at = put_hex_byte(out, at, s[i]);
+        at = put_hex_byte(to, out, at, s[i])?;
         i += 1;
     }
-    at
+    Ok(at)
 }
 
 // Writes the first w bytes.
-fn write(out: &[u8], w: usize)
+fn write<W: Write>(to: &mut W, out: &[u8], w: usize) -> Result<()>
     requires { w ≤ length out.now }
 {
-    io::write_all(STDOUT_FILENO, &out[..w]);
+    to.write_all(&out[..w])
 }
 
 // Writes out what waits: then nothing does.
-pub fn flush(out: &Block, w: usize)
+pub fn flush<W: Write>(to: &mut W, out: &Block, w: usize) -> Result<()>
     requires { w ≤ 65536 }
 {
-    write(out, w);
+    write(to, out, w)
 }

@@ -2,17 +2,21 @@
 //     panel [-DEPTH] [FILE..]
 // -DEPTH is how many levels of the outline are shown, 8 unless it is given. With no FILE, or for `-`, standard input is read.
 #![tactic(auto)]
+
 mod depth;
 mod lines;
 mod program;
 mod source;
 
-ghost use Rattle.std.specs.Prelude.{◌≡◌, ◌≤◌, length};
+ghost use Rattle.std.specs.Prelude.{◌≡◌, ◌≤◌, length, IfSome};
 
 use depth::Asked;
 use outline::page;
 use outline::page::Block;
 use source::End;
+use std::env::FillError;
+use std::io::{Error, Result, Write};
+use std::rt::{Env, Files};
 
 // The longest file.
 const LONGEST: usize = 131072;
@@ -24,33 +28,53 @@ fn file_buffer() -> [u8; 131073]
     [0; 131073]
 }
 
+// Writes a line to standard error: the file's name, a colon and the system's reason.
+fn fail<E: Write>(err: &mut E, name: &[u8], reason: Error) -> Result<()> {
+    err.write_all(name)?;
+    writeln!(err, ": {reason}")
+}
+
 // Writes out what waits, with a word on why a file is not shown, and to standard error the system's reason.
-fn give_up(name: &[u8], word: &[u8], out: &mut Block, w: usize)
+fn give_up<W: Write, E: Write>(
+    to: &mut W,
+    err: &mut E,
+    name: &[u8],
+    word: &[u8],
+    reason: Error,
+    out: &mut Block,
+    w: usize,
+) -> Result<()>
     requires { w ≤ 65536 }
 {
-    let w1 = page::put(out, w, word);
-    page::flush(out, w1);
-    os::fail(name);
+    let w1 = page::put(to, out, w, word)?;
+    page::flush(to, out, w1)?;
+    fail(err, name, reason)
 }
 
 // Shows the file of a name.
-fn show(name: &[u8], depth: usize) {
+fn show<R: Files + Input, W: Write, E: Write>(
+    rt: &R,
+    to: &mut W,
+    err: &mut E,
+    name: &[u8],
+    depth: usize,
+) -> Result<()> {
     let mut file = file_buffer();
     let mut out = io::large_buffer();
-    let w = lines::put_named(&mut out, 0, b"file ", name);
-    let got = source::fetch(name, &mut file);
+    let w = lines::put_named(to, &mut out, 0, b"file ", name)?;
+    let got = source::fetch(rt, name, &mut file);
     let n = got.n;
     let end = got.end;
     match end {
-        End::NotOpened => give_up(name, b"cannot be opened\n", &mut out, w),
-        End::NotRead => give_up(name, b"cannot be read\n", &mut out, w),
+        End::NotOpened(e) => give_up(to, err, name, b"cannot be opened\n", e, &mut out, w),
+        End::NotRead(e) => give_up(to, err, name, b"cannot be read\n", e, &mut out, w),
         End::TooLong => {
-            let w1 = lines::put_too_long(&mut out, w, LONGEST);
-            page::flush(&out, w1);
+            let w1 = lines::put_too_long(to, &mut out, w, LONGEST)?;
+            page::flush(to, &out, w1)
         }
         End::Whole => {
-            let w1 = program::put_program(&file[..n], depth, &mut out, w);
-            page::flush(&out, w1);
+            let w1 = program::put_program(to, &file[..n], depth, &mut out, w)?;
+            page::flush(to, &out, w1)
         }
     }
 }
@@ -62,40 +86,59 @@ struct Seen {
     file: bool,
 }
 
+// Puts argument i at the start of the buffer, and answers its length, or nothing past the last argument. One that is longer than the buffer
+// counts as empty.
+fn fill<R: Env>(rt: &R, i: usize, name: &mut [u8]) -> Option<usize>
+    ensures { IfSome result (λ k. k ≤ length name.new) }
+{
+    match rt.arg(i, name) {
+        Ok(k) => Some(k),
+        Err(FillError::TooLong) => Some(0),
+        Err(FillError::NotPresent) => None,
+    }
+}
+
 // One argument: a depth, or a file to show.
-fn argument(i: usize, seen: Seen) -> Seen {
-    let mut name = io::buffer();
-    let k = os::arg(i, &mut name);
-    let asked = depth::in_argument(&name[..k]);
+fn argument<R: Files + Input, W: Write, E: Write>(
+    rt: &R,
+    to: &mut W,
+    err: &mut E,
+    name: &[u8],
+    seen: Seen,
+) -> Result<Seen> {
+    let asked = depth::in_argument(name);
     match asked {
-        Asked::Depth(depth) => Seen {
+        Asked::Depth(depth) => Ok(Seen {
             depth,
             file: seen.file,
-        },
+        }),
         Asked::Nothing => {
-            show(&name[..k], seen.depth);
-            Seen {
+            show(rt, to, err, name, seen.depth)?;
+            Ok(Seen {
                 depth: seen.depth,
                 file: true,
-            }
+            })
         }
     }
 }
 
 // All arguments, and standard input where none of them is a file.
-fn main() {
+fn main(rt: HostRuntime) -> Result<()> {
+    let mut to = rt.stdout();
+    let mut err = rt.stderr();
     let mut seen = Seen {
         depth: 8,
         file: false,
     };
-    let count = os::arg_count();
-    let mut i = 1;
-    while i < count {
-        seen = argument(i, seen);
-        i += 1;
+    for i in 1..usize::MAX {
+        let mut name = io::buffer();
+        let Some(k) = fill(&rt, i, &mut name) else {
+            break;
+        };
+        seen = argument(&rt, &mut to, &mut err, &name[..k], seen)?;
     }
     if seen.file {
-        return;
+        return Ok(());
     }
-    show(b"-", seen.depth);
+    show(&rt, &mut to, &mut err, b"-", seen.depth)
 }

@@ -2,15 +2,17 @@
 ghost use Rattle.std.specs.Prelude.{◌≤◌, length};
 ghost use Rattle.io.specs.Counts.{IsPrefixLen};
 
-use libc::STDIN_FILENO;
+use std::io::{Error, ErrorKind, Read, Result};
+use std::rt::Files;
+use std::{fs, str};
 
-// How reading ended.
+// How reading ended, and where it failed the system's reason.
 #[derive(Clone, Copy)]
 pub enum End {
     Whole,
     TooLong,
-    NotOpened,
-    NotRead,
+    NotOpened(Error),
+    NotRead(Error),
 }
 
 // How many bytes came, and how reading ended.
@@ -24,7 +26,7 @@ pub struct Got {
 #[derive(Clone, Copy)]
 struct Part {
     n: usize,
-    failed: bool,
+    failed: Option<Error>,
 }
 
 fn is_dash(name: &[u8]) -> bool {
@@ -34,37 +36,41 @@ fn is_dash(name: &[u8]) -> bool {
     name[0] == b'-'
 }
 
-// A descriptor to read from, or -1.
-fn open(name: &[u8]) -> i32 {
-    if is_dash(name) {
-        return STDIN_FILENO;
+// The file of a name to read from. A name that is not UTF-8 opens none, for std's names are text.
+fn open<R: Files>(rt: &R, name: &[u8]) -> Result<R::File> {
+    match str::from_utf8(name) {
+        Ok(text) => fs::open(rt, text),
+        Err(_) => Err(Error::from(ErrorKind::InvalidFilename)),
     }
-    os::open_read(name)
 }
 
-fn read_part(fd: i32, buf: &mut [u8]) -> Part
+fn read_part<R: Read>(from: &mut R, buf: &mut [u8]) -> Part
     ensures { result.n ≤ length buf.new }
 {
-    let got = libc::read(fd, buf);
-    let n = io::count(got, buf);
-    Part { n, failed: got < 0 }
+    match from.read(buf) {
+        Ok(n) => Part { n, failed: None },
+        Err(e) => Part {
+            n: 0,
+            failed: Some(e),
+        },
+    }
 }
 
 // A read that moves nothing is the last: the file ended, or the read failed. The two are told apart, so that no file is taken for a shorter one.
-fn last(failed: bool) -> End {
-    if failed {
-        return End::NotRead;
+fn last(failed: Option<Error>) -> End {
+    match failed {
+        Some(e) => End::NotRead(e),
+        None => End::Whole,
     }
-    End::Whole
 }
 
 // Reads to the end of the file. One that fills the buffer is too long.
-fn read_all(fd: i32, buf: &mut [u8]) -> Got
+fn read_all<R: Read>(from: &mut R, buf: &mut [u8]) -> Got
     ensures { IsPrefixLen result.n buf.new }
 {
     let mut done = 0;
     while done < buf.len() {
-        let part = read_part(fd, &mut buf[done..]);
+        let part = read_part(from, &mut buf[done..]);
         if part.n == 0 {
             return Got {
                 n: done,
@@ -79,18 +85,22 @@ fn read_all(fd: i32, buf: &mut [u8]) -> Got
     }
 }
 
-// Reads the file of a name. Closing it leaves the reason of a failure where it is told from.
-pub fn fetch(name: &[u8], buf: &mut [u8]) -> Got
+// Reads the file of a name, which is closed before its end is told.
+pub fn fetch<R: Files + Input>(rt: &R, name: &[u8], buf: &mut [u8]) -> Got
     ensures { IsPrefixLen result.n buf.new }
 {
-    let fd = open(name);
-    if fd < 0 {
-        return Got {
-            n: 0,
-            end: End::NotOpened,
-        };
+    if is_dash(name) {
+        let mut from = rt.reader();
+        return read_all(&mut from, buf);
     }
-    let got = read_all(fd, buf);
-    libc::close(fd);
-    got
+    match open(rt, name) {
+        Ok(file) => {
+            let mut from = file;
+            read_all(&mut from, buf)
+        }
+        Err(e) => Got {
+            n: 0,
+            end: End::NotOpened(e),
+        },
+    }
 }

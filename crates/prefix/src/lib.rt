@@ -1,6 +1,7 @@
 // The numbers of the serialised form, and the prefixes of its atoms: one small table, its only reader, and the two walks along it
 // (document 02, W1).
 #![tactic(auto)]
+
 ghost use Rattle.std.specs.Prelude.{◌≡◌, [], ◌∷◌, ◌≤◌, ◌<◌};
 ghost use Rattle.rules.specs.Serial.{base_of, limit_of, extra as extra_of, extra_for};
 

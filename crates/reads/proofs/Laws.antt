@@ -22,7 +22,7 @@ use Rattle.rules.proofs.Sound.{store-lent}
 use Rattle.rules.proofs.Args.{Inside, inside}
 use Rattle.rules.proofs.Smalls.{fits-value, fits-bytes, fits-small_bytes, length-be, last-bytes}
 
--- ---- sameBytes is equality
+-- ---- same_bytes is equality
 
 pub same_refl : (x : List ℕ) → same_bytes x x ≡ true
 unfolding same_bytes
@@ -36,7 +36,7 @@ same_true [] (b ∷ y) h = absurd (false≢true h)
 same_true (a ∷ x) [] h = absurd (false≢true h)
 same_true (a ∷ x) (b ∷ y) h = let p = both _ _ h in ap₂ ◌∷◌ (eqb-true a b p.0) (same_true x y p.1)
 
--- a test that holds exactly where two byte strings are equal is sameBytes
+-- a test that holds exactly where two byte strings are equal is same_bytes
 decided : (x y : List ℕ) (b : Bool) → (b ≡ true → x ≡ y) → (x ≡ y → b ≡ true) → same_bytes x y ≡ b
 decided x y true f g = rw (f refl) (same_refl y)
 decided x y false f g = other (same_bytes x y) refl

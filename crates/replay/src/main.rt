@@ -1,5 +1,8 @@
 // Reads records from standard input and prints their rows (document 01, "The request program").
 #![tactic(auto)]
-fn main() {
-    trace::program::replay(libc::STDIN_FILENO);
+
+use std::io::Result;
+
+fn main(rt: HostRuntime) -> Result<()> {
+    trace::program::replay(&mut rt.stdin(), &mut rt.stdout())
 }

@@ -5,7 +5,6 @@ use Rattle.rules.specs.Said.{Said, says, refuses}
 use Rattle.rules.specs.Paper.{code_number}
 use Rattle.rules.specs.Restores as Rule
 use Rattle.restores.specs.declared.course.Course.{Course}
-use Rattle.restores.specs.declared.course.Course.TheVariants as Course
 
 abbrev pub course_paper : Course → Said Rule.Course
 course_paper (Course.Refuse code node) = refuses (code_number code) node

@@ -5,7 +5,7 @@ use mathlib.Core.List.{List, [], ◌++◌, append_assoc, append-nil}
 use native.Mathlib.Omega.{arith}
 use borrow.Rule.Slice.PartMut.{put_mid}
 use lib.ListN.{length, take, drop, take-append-drop, length-append, length-take, length-drop, drop_of_length-le}
-use lib.Seq.{slice, length-take-le, take_all, take-length, take-take, drop-drop, take_at, drop_at, take-append-le}
+use lib.Seq.{slice, length-take-le, take_all, take-take, drop-drop, take_at, drop_at, take-append-le}
 use Rattle.rules.specs.State.{over}
 
 -- ---- a copy into the lent tail: e is what the copying left of it

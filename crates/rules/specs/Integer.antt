@@ -1,5 +1,5 @@
 -- Integers as bytes: big-endian two's complement, as the public CLVM documentation has it (document 01: new_u64, new_i64).
-use Rattle.std.specs.Prelude.{ℕ, zero, suc, ◌+◌, ◌-◌, ◌*◌, ◌^◌, ◌≤◌, Bool, true, false, cond, List, [], ◌≡◌, ltb, eqb, ℤ, pos, negsuc, length}
+use Rattle.std.specs.Prelude.{ℕ, zero, suc, ◌-◌, ◌*◌, ◌^◌, ◌≤◌, Bool, false, cond, List, ◌≡◌, ltb, eqb, ℤ, pos, negsuc, length}
 use Rattle.std.specs.Int.Signed.{mag}
 use Rattle.rules.specs.Small.{big, be, Octets}
 

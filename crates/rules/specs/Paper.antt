@@ -8,41 +8,23 @@ use Rattle.rules.specs.declared.Changed.{Changed}
 use Rattle.rules.specs.declared.Restored.{Restored}
 use Rattle.rules.specs.declared.Loaded.{Loaded}
 use Rattle.rules.specs.declared.Code.{Code}
-use Rattle.rules.specs.declared.Code.TheVariants as Code
 use Rattle.rules.specs.declared.Verdict.{Verdict}
-use Rattle.rules.specs.declared.Verdict.TheVariants as Verdict
 use Rattle.rules.specs.declared.ObjectType.{ObjectType}
-use Rattle.rules.specs.declared.ObjectType.TheVariants as ObjectType
 use Rattle.rules.specs.declared.View.{View}
-use Rattle.rules.specs.declared.View.TheVariants as View
 use Rattle.rules.specs.declared.Arg.{Arg}
-use Rattle.rules.specs.declared.Arg.TheVariants as Arg
 use Rattle.rules.specs.declared.Atom.{Atom}
-use Rattle.rules.specs.declared.Atom.TheVariants as Atom
 use Rattle.rules.specs.declared.Number.{Number}
-use Rattle.rules.specs.declared.Number.TheVariants as Number
 use Rattle.rules.specs.declared.Truth.{Truth}
-use Rattle.rules.specs.declared.Truth.TheVariants as Truth
 use Rattle.rules.specs.declared.Fits.{Fits}
-use Rattle.rules.specs.declared.Fits.TheVariants as Fits
 use Rattle.rules.specs.declared.SmallNumber.{SmallNumber}
-use Rattle.rules.specs.declared.SmallNumber.TheVariants as SmallNumber
 use Rattle.rules.specs.declared.NodeVisitor.{NodeVisitor}
-use Rattle.rules.specs.declared.NodeVisitor.TheVariants as NodeVisitor
 use Rattle.rules.specs.declared.SExp.{SExp}
-use Rattle.rules.specs.declared.SExp.TheVariants as SExp
 use Rattle.rules.specs.declared.Next.{Next}
-use Rattle.rules.specs.declared.Next.TheVariants as Next
 use Rattle.rules.specs.declared.NodeStatus.{NodeStatus}
-use Rattle.rules.specs.declared.NodeStatus.TheVariants as NodeStatus
 use Rattle.rules.specs.declared.Taken.{Taken}
-use Rattle.rules.specs.declared.Taken.TheVariants as Taken
 use Rattle.rules.specs.declared.TakenCounts.{TakenCounts}
-use Rattle.rules.specs.declared.TakenCounts.TheVariants as TakenCounts
 use Rattle.rules.specs.declared.Answer.{Answer}
-use Rattle.rules.specs.declared.Answer.TheVariants as Answer
 use Rattle.rules.specs.declared.MaybeRestore.{MaybeRestore}
-use Rattle.rules.specs.declared.MaybeRestore.TheVariants as MaybeRestore
 use Rattle.rules.specs.Node.{Node, pair_at, bytes_at, small, bad}
 use Rattle.rules.specs.Said.{Said, says, refuses, Done, done, NoLists, no_lists, Out}
 use Rattle.rules.specs.State.{Store, Lists}

@@ -7,7 +7,7 @@ use Rattle.rules.specs.declared.Allocator.{Allocator}
 use Rattle.rules.specs.Node.{Node, pair_at, bytes_at, small, bad, view, index_of, nil}
 use Rattle.rules.specs.Small.{fits, len_for, be, small_bytes}
 use Rattle.rules.specs.Said.{Said, says, refuses, need, says_of}
-use Rattle.rules.specs.State.{AtomSlots, PairSlots, start_at, end_at, first_at, rest_at, atoms, pairs, atoms_sound, pairs_sound, slots_sound, bytes_sound, atom_slot_sound, pair_slot_sound}
+use Rattle.rules.specs.State.{AtomSlots, PairSlots, start_at, end_at, first_at, rest_at, atoms_sound, pairs_sound, slots_sound, bytes_sound, atom_slot_sound, pair_slot_sound}
 
 -- ---- NodePtr: 5 for a kind above 2
 

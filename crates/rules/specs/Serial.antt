@@ -4,7 +4,7 @@ use Rattle.std.proofs.Math.Seq.{slice}
 use Rattle.rules.specs.Small.{big, be}
 use Rattle.rules.specs.Tree.{Tree, leaf, fork}
 
--- ---- the table: a prefix of k + 1 bytes, k from 0 to 4, starts at base_of k and is for lengths below limitOf k
+-- ---- the table: a prefix of k + 1 bytes, k from 0 to 4, starts at base_of k and is for lengths below limit_of k
 
 -- 80, c0, e0, f0, f8; from the next, fc, on no prefix starts
 unfoldable pub base_of : ℕ → ℕ

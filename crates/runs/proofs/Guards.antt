@@ -3,7 +3,7 @@ use Prim.Native.Nat.{ℕ}
 use mathlib.Core.Path.{◌≡◌, subst}
 use mathlib.Core.Bool.{Bool, true}
 use native.Mathlib.Omega.{arith}
-use Rattle.rules.specs.Said.{Said, says, need, NoLists, no_lists, Out, refused, settle}
+use Rattle.rules.specs.Said.{Said, says, need, NoLists, no_lists, Out, settle}
 use Rattle.rules.specs.State.{Store, PairStore}
 use Rattle.rules.proofs.Needs.{need_ind}
 use Rattle.rules.specs.Whole.{St, Whole, store_of, pairs_of, alone, on_pairs, on_store}

@@ -10,7 +10,7 @@ use borrow.Rule.Slice.PartMut.{put_mid}
 use borrow.Author.Tests.{ltb-true, eqb-true}
 use lib.Dec.{eqb, ltb}
 use lib.ListN.{length, get_or, take, drop, set, length-append, length-take}
-use lib.Seq.{take-length, get_or_at, set_at}
+use lib.Seq.{get_or_at, set_at}
 use Rattle.rules.specs.Small.{be}
 use Rattle.rules.specs.State.{over}
 use Rattle.rules.specs.Serial.{base_of, limit_of, first_below, prefix, extra_for, shortest_atom}

@@ -23,12 +23,12 @@ put_then a b c s t w r q p k = record {
 
 -- e is what a copy of v into l, lent from index w on, left of that part
 pub put_tail : (l v e : List ℕ) (w : ℕ) → w + length v ≤ length l
-    → e ≡ v ++ drop (length v) (take (length l - w) (drop w l)) → Put l (put_mid w (length l - w) l e) w (w + length v) v
+    → e ≡ take (length v) v ++ drop (length v) (take (length l - w) (drop w l)) → Put l (put_mid w (length l - w) l e) w (w + length v) v
 put_tail l v e w h k =
     let d : drop (w + (length l - w)) l ≡ [] = drop_of_length-le l {i = w + (length l - w)} (omega arith) in
     let n : length (take w l ++ v) ≡ w + length v = simp (length-append, length-take-le w l (omega arith)) in
     record {
-      text = simp (k, d, drop-drop, append-nil, ← append_assoc) (take_at (take w l ++ v) (drop (length v) (take (length l - w) (drop w l))) (w + length v) n);
+      text = simp (k, take-length, d, drop-drop, append-nil, ← append_assoc) (take_at (take w l ++ v) (drop (length v) (take (length l - w) (drop w l))) (w + length v) n);
       end = refl;
     }
 

@@ -1,13 +1,13 @@
 // All records of an input: their rows, and the text in one piece or in several.
-ghost use Rattle.std.specs.Prelude.{◌≡◌, ◌+◌, ◌*◌, ◌≤◌, ◌<◌, length};
+ghost use Rattle.std.specs.Prelude.{◌≡◌, ◌+◌, ◌*◌, ◌≤◌, ◌<◌, length, IfOk};
 ghost use Rattle.rules.specs.Lent.{lists_in};
 ghost use Rattle.machine.specs.Sane.{Ready};
 ghost use Rattle.trace.specs.Trace.{text_of};
 ghost use Rattle.trace.specs.Run.{Advanced, Ended, RanFrom};
 
 use crate::step;
-use libc::STDOUT_FILENO;
 use machine::Machine;
+use std::io::{Result, Write};
 
 // The longest input.
 const LONGEST: usize = 65536;
@@ -121,8 +121,9 @@ pub fn run(
     finish(m, at, out, w)
 }
 
-// Writes the whole text of an input to standard output, a buffer at a time; answers how many bytes that were.
-pub fn print(
+// Writes the whole text of an input, a buffer at a time; answers how many bytes that were.
+pub fn print<W: Write>(
+    to: &mut W,
     bytes: &mut [u8],
     starts: &mut [u32],
     ends: &mut [u32],
@@ -130,15 +131,15 @@ pub fn print(
     rests: &mut [u32],
     input: &[u8],
     out: &mut [u8],
-) -> usize
+) -> Result<usize>
     requires { 201 ≤ length out.old }
-    ensures { result
-        ≡ length (text_of (lists_in bytes.old starts.old ends.old firsts.old rests.old) input.now) }
+    ensures { IfOk result (λ n. n
+        ≡ length (text_of (lists_in bytes.old starts.old ends.old firsts.old rests.old) input.now)) }
 {
     if LONGEST < input.len() {
         let k = text::put_long(out);
-        io::write_all(STDOUT_FILENO, &out[..k]);
-        return k;
+        to.write_all(&out[..k])?;
+        return Ok(k);
     }
     let mut m = machine::fresh();
     let mut at = 0;
@@ -147,10 +148,10 @@ pub fn print(
     loop {
         let ran = run(m, bytes, starts, ends, firsts, rests, input, at, out, w);
         let wrote = ran.wrote;
-        io::write_all(STDOUT_FILENO, &out[..wrote]);
+        to.write_all(&out[..wrote])?;
         sent += wrote;
         if ran.done {
-            return sent;
+            return Ok(sent);
         }
         m = ran.machine;
         at = ran.at;

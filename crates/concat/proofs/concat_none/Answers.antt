@@ -3,7 +3,6 @@ use Rattle.concat.proofs.Puts.{refused-is}
 use mathlib.Core.Path.{sym, ◌∙◌}
 use borrow.Author.Tests.{ne_eqb}
 use Rattle.rules.specs.Said.{need}
-use borrow.Author.Rules.{rules}
 use Rattle.concat.proofs.concat_none.Goals as goal
 
 pub returns-then-size-eq0 : goal.returns-then-size-eq0

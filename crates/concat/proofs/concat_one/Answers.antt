@@ -1,7 +1,6 @@
 -- `concat::concat_one` meets its contract. Assumes nothing.
 use Rattle.concat.proofs.Puts.{refused-is}
 use mathlib.Core.Path.{◌∙◌}
-use borrow.Author.Rules.{rules}
 use Rattle.concat.proofs.concat_one.Goals as goal
 
 pub returns-in-Done : goal.returns-in-Done

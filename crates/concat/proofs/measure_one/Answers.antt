@@ -3,7 +3,6 @@ use mathlib.Core.Path.{sym, ap, ◌∙◌}
 use native.Mathlib.Omega.{arith}
 use Rattle.rules.specs.Paper.{atom_paper}
 use Rattle.rules.proofs.Args.{atom_in}
-use borrow.Author.Rules.{rules}
 use Rattle.concat.proofs.measure_one.Goals as goal
 
 pub overflow_sub-end : goal.overflow_sub-end

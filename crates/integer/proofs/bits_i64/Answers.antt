@@ -1,7 +1,6 @@
 -- `bits_i64` meets its contract, by what is known of a number below zero and of one that is not. Assumes nothing.
 use native.Mathlib.Omega.{arith}
 use Rattle.integer.proofs.Signs.{below, above}
-use borrow.Author.Rules.{rules}
 use Rattle.integer.proofs.bits_i64.Goals as goal
 
 pub overflow_sub-m : goal.overflow_sub-m

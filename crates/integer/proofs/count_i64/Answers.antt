@@ -1,7 +1,6 @@
 -- `count_i64` meets its contract. The loop's invariant: the walk's first k widths are too small for x, which the loop has
 -- by its 64 bits. Assumes nothing.
 use mathlib.Core.Path.{◌≡◌, sym, ap, ◌∙◌}
-use Prim.Native.Nat.{◌≤◌, ◌-◌}
 use native.Mathlib.Omega.{arith}
 use borrow.Author.Tests.{ltb-true, ltb-false}
 use lib.IntN.{ℤ}
@@ -10,7 +9,7 @@ use mir.Syntax.{w64}
 use mir.Val.{to_z, of_z}
 use mir.ValLaws.{to_z-of_z}
 use Rattle.rules.specs.Integer.{count_of}
-use Rattle.integer.proofs.Count.{Walked, count_zero, count-some, walk_stop, walk_on}
+use Rattle.integer.proofs.Count.{count_zero, count-some, walk_stop, walk_on}
 use Rattle.integer.proofs.Signs.{bits_zero}
 use borrow.Author.Rules.{rules}
 use Rattle.integer.proofs.count_i64.Goals as goal

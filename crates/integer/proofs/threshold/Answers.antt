@@ -4,7 +4,6 @@ use mathlib.Core.Path.{refl}
 use mathlib.Core.List.{List, [], ◌∷◌}
 use Prim.Native.Nat.{ℕ}
 use Rattle.integer.proofs.Table.{halves}
-use borrow.Author.Rules.{rules}
 use Rattle.integer.proofs.threshold.Goals as goal
 
 thresholds : List ℕ

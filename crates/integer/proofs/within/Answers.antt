@@ -1,7 +1,6 @@
 -- `within` meets its contract, by the laws of signed comparison with a number and its mirror. Assumes nothing.
 use native.Mathlib.Omega.{arith}
 use Rattle.integer.proofs.Signs.{low_fits, outside, inside}
-use borrow.Author.Rules.{rules}
 use Rattle.integer.proofs.within.Goals as goal
 
 pub overflow_cast-top : goal.overflow_cast-top

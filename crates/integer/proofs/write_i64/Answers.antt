@@ -8,7 +8,6 @@ use Rattle.rules.specs.Small.{be}
 use Rattle.rules.specs.Integer.{count_of}
 use Rattle.integer.proofs.Count.{count_le}
 use Rattle.integer.proofs.Writes.{written, bits_int}
-use borrow.Author.Rules.{rules}
 use Rattle.integer.proofs.write_i64.Goals as goal
 
 pub put_be-requires : goal.put_be-requires

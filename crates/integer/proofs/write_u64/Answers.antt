@@ -4,7 +4,6 @@ use native.Mathlib.Omega.{arith}
 use lib.IntN.{pos}
 use Rattle.integer.proofs.Count.{count_le}
 use Rattle.integer.proofs.Writes.{written}
-use borrow.Author.Rules.{rules}
 use Rattle.integer.proofs.write_u64.Goals as goal
 
 pub put_be-requires : goal.put_be-requires

@@ -8,8 +8,6 @@ use Rattle.words.specs.Words.{record_of}
 use Rattle.load.specs.Tokens.{token_paper}
 use Rattle.load.proofs.Readings.{item-deep, item_by, pair_first, pair_rest, pair_both}
 use Rattle.load.proofs.Tokens.{pair_inside, atom-inside}
-use Prim.Native.Nat.{ℕ, ◌+◌, ◌*◌, ◌<◌}
-use borrow.Author.Rules.{rules}
 use Rattle.load.proofs.+item_pair.Goals as goal
 
 pub item-returns-then-levels-eq0 : goal.item-returns-then-levels-eq0
@@ -48,70 +46,6 @@ item-returns-in-String t c =
     let l = lists a.bytes.now (atom_slots a.starts.now a.ends.now) (pair_slots a.firsts.now a.rests.now) in
     c.atom_item.ensures (pair_store (pair_slots a.firsts.now a.rests.now))
     ∙ item_by a.f.now a.levels a.at (record_of a.words.now) l (string c.in-String.from c.in-String.to) c.if-levels-eq0.false (sym (ap token_paper c.in-String.is) ∙ c.token_at-found.ensures)
-
--- left: no goal same-length-6 now
--- pair-same-length-6 : tie.Need-same-length-6
--- pair-same-length-6 c =
---     let (bytes, bytes2) : tie.After-bytes × tie.After-bytes2 = search in
---     bytes2.bytes2.given ∙ bytes.bytes.given
-
--- left: no goal same-length-7 now
--- pair-same-length-7 : tie.Need-same-length-7
--- pair-same-length-7 c =
---     let (starts, starts2) : tie.After-starts × tie.After-starts2 = search in
---     starts2.starts2.given ∙ starts.starts.given
-
--- left: no goal same-length-8 now
--- pair-same-length-8 : tie.Need-same-length-8
--- pair-same-length-8 c =
---     let (ends, ends2) : tie.After-ends × tie.After-ends2 = search in
---     ends2.ends2.given ∙ ends.ends.given
-
--- left: no goal same-length-9 now
--- pair-same-length-9 : tie.Need-same-length-9
--- pair-same-length-9 c =
---     let (firsts, firsts2) : tie.After-firsts × tie.After-firsts2 = search in
---     firsts2.firsts2.given ∙ firsts.firsts.given
-
--- left: no goal same-length-10 now
--- pair-same-length-10 : tie.Need-same-length-10
--- pair-same-length-10 c =
---     let (rests, rests2) : tie.After-rests × tie.After-rests2 = search in
---     rests2.rests2.given ∙ rests.rests.given
-
--- left: no goal same-length-11 now
--- pair-same-length-11 : tie.Need-same-length-11
--- pair-same-length-11 c =
---     let bytes2 : tie.After-bytes2 = search in
---     let bytes = bytes_of bytes2 in
---     bytes2.bytes2.given ∙ bytes.bytes.given
-
--- left: no goal same-length-12 now
--- pair-same-length-12 : tie.Need-same-length-12
--- pair-same-length-12 c =
---     let starts2 : tie.After-starts2 = search in
---     let starts = starts-of starts2 in
---     starts2.starts2.given ∙ starts.starts.given
-
--- left: no goal same-length-13 now
--- pair-same-length-13 : tie.Need-same-length-13
--- pair-same-length-13 c =
---     let ends2 : tie.After-ends2 = search in
---     let ends = ends_of ends2 in
---     ends2.ends2.given ∙ ends.ends.given
-
--- left: no goal same-length-14 now
--- pair-same-length-14 : tie.Need-same-length-14
--- pair-same-length-14 c =
---     let (firsts2, firsts3) : tie.After-firsts2 × tie.After-firsts3 = search in
---     let firsts = firsts-of firsts2 in
---     firsts3.firsts3.given ∙ (firsts2.firsts2.given ∙ firsts.firsts.given)
-
--- left: no goal same-length-15 now
--- pair-same-length-15 : tie.Need-same-length-15
--- pair-same-length-15 c =
---     let (rests, rests2, rests3) : tie.After-rests × tie.After-rests2 × tie.After-rests3 = search in
---     rests3.rests3.given ∙ (rests2.rests2.given ∙ rests.rests.given)
 
 pub pair-returns-in_default : goal.pair-returns-in_default
 pair-returns-in_default t c =

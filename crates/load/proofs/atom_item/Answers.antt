@@ -7,7 +7,6 @@ use Rattle.rules.specs.Creates.{new_atom}
 use Rattle.rules.proofs.Lists.{part_slice}
 use Rattle.words.specs.Words.{record_of, in_words}
 use Rattle.load.proofs.Readings.{atom-words}
-use borrow.Author.Rules.{rules}
 use Rattle.load.proofs.atom_item.Goals as goal
 
 pub returns : goal.returns

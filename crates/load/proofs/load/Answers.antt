@@ -9,7 +9,6 @@ use Rattle.rules.specs.Load.{Reading, item, at_end, or_back, levels_of}
 use Rattle.words.specs.Words.{record_of}
 use Rattle.load.specs.Readings.{read_item}
 use Rattle.load.proofs.Readings.{load-sound, load-unsound}
-use borrow.Author.Rules.{rules}
 use Rattle.load.proofs.load.Goals as goal
 
 pub returns-then-lists_sound : goal.returns-then-lists_sound

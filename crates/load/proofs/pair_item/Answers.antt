@@ -1,7 +1,6 @@
 -- `pair_item` meets its contract. Assumes nothing.
 use mathlib.Core.Path.{◌∙◌}
 use Rattle.load.proofs.Readings.{pair-words}
-use borrow.Author.Rules.{rules}
 use Rattle.load.proofs.pair_item.Goals as goal
 
 pub returns : goal.returns

@@ -4,7 +4,6 @@ use mathlib.Core.Path.{ap}
 use Rattle.rules.specs.Load.{reading}
 use Rattle.rules.specs.Paper.{answer_paper}
 use Rattle.load.proofs.Readings.{placed-node, placed-refused}
-use borrow.Author.Rules.{rules}
 use Rattle.load.proofs.placed.Goals as goal
 
 pub returns-in-Node : goal.returns-in-Node

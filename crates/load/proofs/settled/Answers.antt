@@ -1,7 +1,6 @@
 -- `settled` meets its contract. Assumes nothing.
 use mathlib.Core.Path.{◌∙◌}
 use Rattle.load.proofs.Readings.{end_whole, end_more, end_refused}
-use borrow.Author.Rules.{rules}
 use Rattle.load.proofs.settled.Goals as goal
 
 pub returns-then-at-len : goal.returns-then-at-len

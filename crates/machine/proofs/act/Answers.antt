@@ -4,7 +4,6 @@ use lib.ListN.{length}
 use borrow.Author.Tests.{lt-ltb, le-ltb}
 use Rattle.request.specs.Request.{way_of, Within}
 use Rattle.machine.specs.Machine.{checkpoint_at, called, went_back}
-use borrow.Author.Rules.{rules}
 use Rattle.machine.proofs.act.Goals as goal
 
 pub make-called-requires : goal.make-called-requires

@@ -1,5 +1,4 @@
 -- `machine::back` meets its contract: the four answers of a restore. Assumes nothing.
-use borrow.Author.Rules.{rules}
 use Rattle.machine.proofs.back.Goals as goal
 
 pub returns-in-NoReplace : goal.returns-in-NoReplace

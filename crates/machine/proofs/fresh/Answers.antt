@@ -1,5 +1,4 @@
 -- `machine::fresh` meets its contract: what a fresh record is. Assumes nothing.
-use borrow.Author.Rules.{rules}
 use Rattle.machine.proofs.fresh.Goals as goal
 
 pub returns : goal.returns

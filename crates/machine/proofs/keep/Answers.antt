@@ -1,6 +1,5 @@
 -- `machine::keep` meets its contract: a free place, or none. Assumes nothing.
 use borrow.Author.Tests.{lt-ltb, le-ltb}
-use borrow.Author.Rules.{rules}
 use Rattle.machine.proofs.keep.Goals as goal
 
 pub returns-then-i-ge-CHECKPOINTS : goal.returns-then-i-ge-CHECKPOINTS

@@ -1,5 +1,4 @@
 -- `machine::refuse` meets its contract: a refusal with nil. Assumes nothing.
-use borrow.Author.Rules.{rules}
 use Rattle.machine.proofs.refuse.Goals as goal
 
 pub returns : goal.returns

@@ -1,5 +1,4 @@
 -- `machine::refused` meets its contract: the code's number. Assumes nothing.
-use borrow.Author.Rules.{rules}
 use Rattle.machine.proofs.refused.Goals as goal
 
 pub returns : goal.returns

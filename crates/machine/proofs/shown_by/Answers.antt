@@ -1,5 +1,4 @@
 -- `machine::shown_by` meets its contract: the three ways. Assumes nothing.
-use borrow.Author.Rules.{rules}
 use Rattle.machine.proofs.shown_by.Goals as goal
 
 pub returns-in-WithNode : goal.returns-in-WithNode

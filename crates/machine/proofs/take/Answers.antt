@@ -1,7 +1,6 @@
 -- `machine::take` meets its contract: the two answers of `checkpoint`. Assumes nothing.
 use mathlib.Core.Path.{sym, ap, ◌∙◌}
 use Rattle.rules.specs.Paper.{taken_paper}
-use borrow.Author.Rules.{rules}
 use Rattle.machine.proofs.take.Goals as goal
 
 pub returns-in-Plain : goal.returns-in-Plain

@@ -1,5 +1,4 @@
 -- `machine::with_restored` meets its contract: what was saved. Assumes nothing.
-use borrow.Author.Rules.{rules}
 use Rattle.machine.proofs.with_restored.Goals as goal
 
 pub returns : goal.returns

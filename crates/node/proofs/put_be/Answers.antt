@@ -8,12 +8,6 @@ use lib.ListN.{set, length-set}
 use Rattle.node.proofs.Laws.{put_step, put_none, put_all, rest_step}
 use Rattle.node.proofs.put_be.Goals as goal
 
--- left: no goal same-length now
--- same_length : tie.Need-same-length invariant-loop decreases-loop
--- same_length c =
---     let loop : tie.At-loop invariant-loop decreases-loop = search in
---     loop.loop.invariant.3
-
 pub loop-i-init : goal.loop-i-init
 loop-i-init c =
     let z : c.args.n - c.args.n ≡ 0 = omega arith in

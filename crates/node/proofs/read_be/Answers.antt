@@ -7,12 +7,6 @@ use Rattle.rules.specs.Small.{big}
 use Rattle.node.proofs.Laws.{big_none, big-step, big_bits, big-room}
 use Rattle.node.proofs.read_be.Goals as goal
 
--- left: no goal overflow-cast-n now
--- cast-n : tie.Need-overflow-cast-n invariant-loop decreases-loop
--- cast-n c =
---     let loop : tie.At-loop invariant-loop decreases-loop = search in
---     omega (arith, c.shared-slice-known.given loop.loop.i)
-
 pub loop-i-init : goal.loop-i-init
 loop-i-init c = (omega arith, omega arith, big_none c.args.first c.args.more.now)
 

@@ -3,7 +3,6 @@ use Prim.Native.Nat.{ℕ}
 use mathlib.Core.Path.{ap}
 use mathlib.Core.List.{List}
 use lib.ListN.{get_or}
-use borrow.Author.Rules.{rules}
 use Rattle.prefix.proofs.base.Goals as goal
 
 pub returns : goal.returns

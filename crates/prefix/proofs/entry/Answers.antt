@@ -4,7 +4,6 @@ use mathlib.Core.Path.{sym, ap, ◌∙◌}
 use mathlib.Core.List.{List, []}
 use lib.ListN.{get_or}
 use Rattle.prefix.proofs.Table.{table, table_at}
-use borrow.Author.Rules.{rules}
 use Rattle.prefix.proofs.entry.Goals as goal
 
 pub returns : goal.returns

@@ -1,9 +1,7 @@
 -- `extra_for` meets its contract. The loop's invariant: none of the first k bounds is above the number. Assumes nothing.
 use Prim.Native.Nat.{◌-◌, ◌≤◌}
-use mathlib.Core.Path.{◌≡◌, refl}
-use native.Mathlib.Omega.{arith}
 use Rattle.rules.specs.Serial.{limit_of}
-use Rattle.prefix.proofs.Walks.{Walked, walk_stop, walk_on, walk_end}
+use Rattle.prefix.proofs.Walks.{Walked}
 use Rattle.prefix.proofs.extra_for.Given as goal
 
 abbrev pub invariant-loop-k : goal.invariant-loop-k

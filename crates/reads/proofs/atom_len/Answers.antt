@@ -6,7 +6,6 @@ use Rattle.rules.specs.Reads.{atom_len}
 use Rattle.rules.specs.Said.{need}
 use native.Mathlib.Omega.{arith}
 use mathlib.Core.Path.{sym, ap, ◌∙◌}
-use borrow.Author.Rules.{rules}
 use Rattle.reads.proofs.atom_len.Goals as goal
 
 pub atom_of-found-requires : goal.atom_of-found-requires

@@ -1,7 +1,6 @@
 -- `reads::bytes_status` meets its contract. Assumes nothing.
 use Rattle.rules.specs.Said.{need}
 use borrow.Author.Tests.{lt-ltb, le-ltb}
-use borrow.Author.Rules.{rules}
 use Rattle.reads.proofs.bytes_status.Goals as goal
 
 pub returns-then-a-i : goal.returns-then-a-i

@@ -4,7 +4,6 @@ use Rattle.rules.specs.Reads.{node_status}
 use Rattle.rules.specs.Said.{need}
 use native.Mathlib.Omega.{arith}
 use mathlib.Core.Path.{sym, ◌∙◌}
-use borrow.Author.Rules.{rules}
 use Rattle.reads.proofs.checkpoint_node_status.Goals as goal
 
 pub status_of-requires : goal.status_of-requires

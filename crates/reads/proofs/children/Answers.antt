@@ -1,7 +1,6 @@
 -- `reads::children` meets its contract. Assumes nothing.
 use Rattle.rules.specs.Reads.{children_of}
 use Rattle.rules.specs.Said.{need}
-use borrow.Author.Rules.{rules}
 use Rattle.reads.proofs.children.Goals as goal
 
 pub returns-then-children_sound : goal.returns-then-children_sound

@@ -1,5 +1,4 @@
 -- `reads::next` meets its contract. Assumes nothing.
-use borrow.Author.Rules.{rules}
 use Rattle.reads.proofs.next.Goals as goal
 
 pub returns-in-Pair : goal.returns-in-Pair

@@ -6,7 +6,6 @@ use Rattle.rules.specs.Reads.{node, children_of}
 use Rattle.rules.specs.Said.{need}
 use native.Mathlib.Omega.{arith}
 use mathlib.Core.Path.{sym, ap, ◌∙◌}
-use borrow.Author.Rules.{rules}
 use Rattle.reads.proofs.node.Goals as goal
 
 pub arg-found-requires : goal.arg-found-requires

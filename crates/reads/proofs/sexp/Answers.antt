@@ -4,7 +4,6 @@ use Rattle.rules.specs.Reads.{sexp}
 use Rattle.rules.specs.Said.{need}
 use native.Mathlib.Omega.{arith}
 use mathlib.Core.Path.{sym, ◌∙◌}
-use borrow.Author.Rules.{rules}
 use Rattle.reads.proofs.sexp.Goals as goal
 
 pub sexp_of-requires : goal.sexp_of-requires

@@ -7,7 +7,6 @@ use Rattle.rules.specs.Reads.{small_number}
 use Rattle.rules.specs.Said.{need}
 use native.Mathlib.Omega.{arith}
 use mathlib.Core.Path.{sym, ap, ◌∙◌}
-use borrow.Author.Rules.{rules}
 use Rattle.reads.proofs.small_number.Goals as goal
 
 pub arg-found-requires : goal.arg-found-requires

@@ -1,5 +1,4 @@
 -- `reads::small_of` meets its contract. Assumes nothing.
-use borrow.Author.Rules.{rules}
 use Rattle.reads.proofs.small_of.Goals as goal
 
 pub returns-in-Value : goal.returns-in-Value

@@ -1,7 +1,6 @@
 -- `reads::status_of` meets its contract: by the view of the node. Assumes nothing.
 use Rattle.rules.specs.Said.{need}
 use borrow.Author.Tests.{lt-ltb, le-ltb}
-use borrow.Author.Rules.{rules}
 use Rattle.reads.proofs.status_of.Goals as goal
 
 pub returns-then-a-i : goal.returns-then-a-i

@@ -1,7 +1,6 @@
 -- `request::frame_at` meets its contract: the two tests of length. Assumes nothing.
 use Rattle.request.specs.Request.{frame_of}
 use borrow.Author.Tests.{lt-ltb, le-ltb}
-use borrow.Author.Rules.{rules}
 use Rattle.request.proofs.frame_at.Goals as goal
 
 pub returns-then-rest-lt-HEAD : goal.returns-then-rest-lt-HEAD

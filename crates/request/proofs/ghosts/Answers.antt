@@ -3,7 +3,6 @@ use Rattle.request.specs.Request.{size_of, ghosts_of}
 use mathlib.Core.Path.{ap, ◌∙◌}
 use borrow.Author.Tests.{eq-eqb, ne_eqb}
 use native.Mathlib.Omega.{arith}
-use borrow.Author.Rules.{rules}
 use Rattle.request.proofs.ghosts.Goals as goal
 
 pub u64_at-requires : goal.u64_at-requires

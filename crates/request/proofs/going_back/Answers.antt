@@ -3,7 +3,6 @@ use Rattle.request.specs.Request.{size_of, back_of}
 use mathlib.Core.Path.{ap, ◌∙◌}
 use borrow.Author.Tests.{eq-eqb, ne_eqb}
 use native.Mathlib.Omega.{arith}
-use borrow.Author.Rules.{rules}
 use Rattle.request.proofs.going_back.Goals as goal
 
 pub u16_at-requires : goal.u16_at-requires

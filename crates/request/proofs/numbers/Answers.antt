@@ -3,7 +3,6 @@ use Rattle.request.specs.Request.{size_of, numbers_of}
 use mathlib.Core.Path.{ap, ◌∙◌}
 use borrow.Author.Tests.{eq-eqb, ne_eqb}
 use native.Mathlib.Omega.{arith}
-use borrow.Author.Rules.{rules}
 use Rattle.request.proofs.numbers.Goals as goal
 
 pub u32_at-first-requires : goal.u32_at-first-requires

@@ -6,7 +6,6 @@ use lib.ListN.{length}
 use Rattle.request.specs.Request.{frame_of}
 use Rattle.request.specs.declared.Frame.TheVariants.{Whole}
 use Rattle.request.proofs.Frames.{frame_fits, frame_short}
-use borrow.Author.Rules.{rules}
 use Rattle.request.proofs.read.Goals as goal
 
 pub returns-in_default : goal.returns-in_default
@@ -16,20 +15,19 @@ returns-in_default c =
 
 pub overflow_add-end : goal.overflow_add-end
 overflow_add-end c =
-    let fits-here : 4 + c.in-Whole.len ≤ length c.args.rest.now = let is-frame-here : frame_of c.args.rest.now ≡ Whole c.in-Whole.kind c.in-Whole.len = sym c.frame_at-frame.ensures ∙ c.in-Whole.is in
-    frame_fits c.args.rest.now c.in-Whole.kind c.in-Whole.len (is-frame-here) in
-    omega (arith, fits-here)
+    let is-frame : frame_of c.args.rest.now ≡ Whole c.in-Whole.kind c.in-Whole.len = sym c.frame_at-frame.ensures ∙ c.in-Whole.is in
+    let fits : 4 + c.in-Whole.len ≤ length c.args.rest.now = frame_fits c.args.rest.now c.in-Whole.kind c.in-Whole.len is-frame in
+    omega (arith, fits)
 
 pub request_of-requires : goal.request_of-requires
 request_of-requires c =
-    let is-frame-here : frame_of c.args.rest.now ≡ Whole c.in-Whole.kind c.in-Whole.len = sym c.frame_at-frame.ensures ∙ c.in-Whole.is in
-    let fits-here : 4 + c.in-Whole.len ≤ length c.args.rest.now = let is-frame-here : frame_of c.args.rest.now ≡ Whole c.in-Whole.kind c.in-Whole.len = sym c.frame_at-frame.ensures ∙ c.in-Whole.is in
-    frame_fits c.args.rest.now c.in-Whole.kind c.in-Whole.len (is-frame-here) in
+    let is-frame : frame_of c.args.rest.now ≡ Whole c.in-Whole.kind c.in-Whole.len = sym c.frame_at-frame.ensures ∙ c.in-Whole.is in
+    let fits : 4 + c.in-Whole.len ≤ length c.args.rest.now = frame_fits c.args.rest.now c.in-Whole.kind c.in-Whole.len is-frame in
     let len = c.in-Whole.len in
-    let h = frame_short c.args.rest.now c.in-Whole.kind len (λ i. omega (arith, c.type_inv.rest i)) (is-frame-here) in
-    (omega arith, omega (arith, fits-here), omega (arith, h))
+    let h = frame_short c.args.rest.now c.in-Whole.kind len (λ i. omega (arith, c.type_inv.rest i)) is-frame in
+    (omega arith, omega (arith, fits), omega (arith, h))
 
 pub returns : goal.returns
 returns c =
-    let is-frame-here : frame_of c.args.rest.now ≡ Whole c.in-Whole.kind c.in-Whole.len = sym c.frame_at-frame.ensures ∙ c.in-Whole.is in
-    record { meaning = simp (is-frame-here) c.request_of.ensures.meaning; size = simp (is-frame-here); within = c.request_of.ensures.within }
+    let is-frame : frame_of c.args.rest.now ≡ Whole c.in-Whole.kind c.in-Whole.len = sym c.frame_at-frame.ensures ∙ c.in-Whole.is in
+    record { meaning = simp is-frame c.request_of.ensures.meaning; size = simp is-frame; within = c.request_of.ensures.within }

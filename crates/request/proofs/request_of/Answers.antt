@@ -6,7 +6,6 @@ use lib.Seq.{slice, length-slice}
 use borrow.Author.Tests.{eq-eqb, ne_eqb}
 use Rattle.rules.proofs.Lists.{part_slice}
 use Rattle.request.specs.Request.{numbers_of, request_of}
-use borrow.Author.Rules.{rules}
 use Rattle.request.proofs.request_of.Goals as goal
 
 pub returns-then-kind-eq-ATOM : goal.returns-then-kind-eq-ATOM
@@ -22,16 +21,16 @@ returns-then-kind-eq-CONCAT c =
 pub returns-then-end-size_of : goal.returns-then-end-size_of
 unfolding request_of
 returns-then-end-size_of c =
-    let length-is-here : length (slice 4 c.args.end c.args.rest.now) ≡ c.args.end - 4 = length-slice 4 c.args.end c.args.rest.now c.requires.1 in
-    record { meaning = simp (ne_eqb _ _ c.if-kind-eq-ATOM.false, ne_eqb _ _ c.if-kind-eq-CONCAT.false, length-is-here, ← c.size_of.ensures, ne_eqb _ _ c.if-end-size_of.true); within = tt }
+    let length-is : length (slice 4 c.args.end c.args.rest.now) ≡ c.args.end - 4 = length-slice 4 c.args.end c.args.rest.now c.requires.1 in
+    record { meaning = simp (ne_eqb _ _ c.if-kind-eq-ATOM.false, ne_eqb _ _ c.if-kind-eq-CONCAT.false, length-is, ← c.size_of.ensures, ne_eqb _ _ c.if-end-size_of.true); within = tt }
 
 pub returns : goal.returns
 unfolding request_of
 returns c =
-    let length-is-here : length (slice 4 c.args.end c.args.rest.now) ≡ c.args.end - 4 = length-slice 4 c.args.end c.args.rest.now c.requires.1 in
+    let length-is : length (slice 4 c.args.end c.args.rest.now) ≡ c.args.end - 4 = length-slice 4 c.args.end c.args.rest.now c.requires.1 in
     let s = c.args in
     let e = part_slice 4 s.end s.rest.now c.requires.0 in record {
-      meaning = simp (ne_eqb _ _ c.if-kind-eq-ATOM.false, ne_eqb _ _ c.if-kind-eq-CONCAT.false, length-is-here, ← c.size_of.ensures, eq-eqb _ _ c.if-end-size_of.false)
+      meaning = simp (ne_eqb _ _ c.if-kind-eq-ATOM.false, ne_eqb _ _ c.if-kind-eq-CONCAT.false, length-is, ← c.size_of.ensures, eq-eqb _ _ c.if-end-size_of.false)
           (c.numbers.ensures.meaning s.rest.now ∙ ap (numbers_of s.kind) e);
       within = c.numbers.ensures.within _;
     }

@@ -1,7 +1,6 @@
 -- `request::size_of` meets its contract: a length for each kind. Assumes nothing.
 use Rattle.request.specs.Request.{size_of}
 use borrow.Author.Tests.{eq-eqb, ne_eqb}
-use borrow.Author.Rules.{rules}
 use Rattle.request.proofs.size_of.Goals as goal
 
 pub returns-then-kind-eq-PAIR : goal.returns-then-kind-eq-PAIR

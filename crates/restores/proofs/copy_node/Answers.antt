@@ -8,7 +8,6 @@ use lib.ListN.{length, take}
 use native.Mathlib.Omega.{arith}
 use mathlib.Core.Path.{◌≡◌, sym, ap, ◌∙◌}
 use Prim.Native.Nat.{◌-◌}
-use borrow.Author.Rules.{rules}
 use Rattle.restores.proofs.copy_node.Goals as goal
 
 pub less_ghosts-less-requires : goal.less_ghosts-less-requires
@@ -22,7 +21,7 @@ slice_bounds-small_or-end c =
     saved_bytes s.start s.end s.bytes.now _ _ p.order (omega (arith, p.inside, p.fit)) c.copy.ensures.value in
     let s = c.args in
     let p = c.requires in
-    sym (ap length (saved-here) ∙ length-slice s.start s.end s.bytes.now (omega (arith, p.inside, p.fit)))
+    sym (ap length saved-here ∙ length-slice s.start s.end s.bytes.now (omega (arith, p.inside, p.fit)))
 
 pub small_or-made-requires : goal.small_or-made-requires
 small_or-made-requires c =
@@ -43,5 +42,5 @@ returns c =
     let len : length v ≡ s.end - s.start = length-slice s.start s.end s.bytes.now (omega (arith, p.inside, p.fit)) in
     let accepts = p.accepts in
     let put = passed_on (atom_tests cut-less (length v) st) cut-less st (λ d. atom_put (fits v) cut-less v st) _ accepts in
-    let e = c.small_or-made.ensures ∙ ap (λ b. small_or (fits (take (s.end - s.start) c.copy.new.to)) (s.end - s.start) b (take (s.end - s.start) c.copy.new.to) st) less ∙ ap (λ w. small_or (fits w) (s.end - s.start) cut-less w st) (saved-here) ∙ ap (λ n. small_or (fits v) n cut-less v st) (sym len) ∙ sym put in
+    let e = c.small_or-made.ensures ∙ ap (λ b. small_or (fits (take (s.end - s.start) c.copy.new.to)) (s.end - s.start) b (take (s.end - s.start) c.copy.new.to) st) less ∙ ap (λ w. small_or (fits w) (s.end - s.start) cut-less w st) saved-here ∙ ap (λ n. small_or (fits v) n cut-less v st) (sym len) ∙ sym put in
     settled s.a st _ c.small_or-made.result c.settle.result _ _ e accepts c.settle.ensures.0 c.settle.ensures.1

@@ -4,7 +4,6 @@ use Rattle.restores.specs.Course.{course_paper}
 use Rattle.rules.specs.State.{lists, atom_slots, pair_slots}
 use native.Mathlib.Omega.{arith}
 use mathlib.Core.Path.{sym, ap, ◌∙◌}
-use borrow.Author.Rules.{rules}
 use Rattle.restores.proofs.maybe_restore_with_node.Goals as goal
 
 pub cut-requires : goal.cut-requires

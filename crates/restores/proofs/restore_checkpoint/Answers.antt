@@ -4,7 +4,6 @@ use Rattle.rules.specs.Restores.{restore_plain}
 use Rattle.rules.specs.Said.{need}
 use native.Mathlib.Omega.{arith}
 use mathlib.Core.Path.{sym, ◌∙◌}
-use borrow.Author.Rules.{rules}
 use Rattle.restores.proofs.restore_checkpoint.Goals as goal
 
 pub usable-requires : goal.usable-requires

@@ -6,7 +6,6 @@ use Rattle.rules.specs.State.{atom_slots, pair_slots}
 use Rattle.rules.specs.Said.{need}
 use native.Mathlib.Omega.{arith}
 use mathlib.Core.Path.{sym, ◌∙◌}
-use borrow.Author.Rules.{rules}
 use Rattle.restores.proofs.restore_transparent_checkpoint.Goals as goal
 
 pub usable-requires : goal.usable-requires

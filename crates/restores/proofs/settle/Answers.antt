@@ -1,5 +1,4 @@
 -- `restores::settle` meets its contract. Assumes nothing.
-use borrow.Author.Rules.{rules}
 use Rattle.restores.proofs.settle.Goals as goal
 
 pub returns-in-Node : goal.returns-in-Node

@@ -1,6 +1,5 @@
 -- `restores::share` meets its contract. Assumes nothing.
 use native.Mathlib.Omega.{arith}
-use borrow.Author.Rules.{rules}
 use Rattle.restores.proofs.share.Goals as goal
 
 pub less_ghosts-requires : goal.less_ghosts-requires

@@ -1,7 +1,6 @@
 -- `save::fitted` meets its contract. Assumes nothing.
 use borrow.Author.Tests.{le-leb, lt-leb}
 use Rattle.rules.specs.Said.{need}
-use borrow.Author.Rules.{rules}
 use Rattle.save.proofs.fitted.Goals as goal
 
 pub returns-then-room-len : goal.returns-then-room-len

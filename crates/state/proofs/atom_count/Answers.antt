@@ -2,7 +2,6 @@
 use Rattle.state.proofs.Laws.{count_uncapped}
 use Rattle.rules.specs.State.{atoms}
 use native.Mathlib.Omega.{arith}
-use borrow.Author.Rules.{rules}
 use Rattle.state.proofs.atom_count.Goals as goal
 
 pub returns : goal.returns

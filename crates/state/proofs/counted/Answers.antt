@@ -1,6 +1,5 @@
 -- `state::counted` meets its contract. Assumes nothing.
 use Rattle.rules.specs.Said.{need}
-use borrow.Author.Rules.{rules}
 use Rattle.state.proofs.counted.Goals as goal
 
 pub returns-then-limits_sound : goal.returns-then-limits_sound

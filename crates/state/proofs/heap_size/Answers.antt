@@ -2,7 +2,6 @@
 use Rattle.state.proofs.Laws.{count_uncapped}
 use Rattle.rules.specs.State.{heap}
 use native.Mathlib.Omega.{arith}
-use borrow.Author.Rules.{rules}
 use Rattle.state.proofs.heap_size.Goals as goal
 
 pub returns : goal.returns

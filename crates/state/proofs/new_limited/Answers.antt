@@ -2,7 +2,6 @@
 use Rattle.rules.specs.Record.{new_limited}
 use Rattle.rules.specs.Said.{need}
 use borrow.Author.Tests.{le-leb, lt-leb}
-use borrow.Author.Rules.{rules}
 use Rattle.state.proofs.new_limited.Goals as goal
 
 pub returns-then-limit-le-TOP : goal.returns-then-limit-le-TOP

@@ -2,7 +2,6 @@
 use Rattle.state.proofs.Laws.{count_uncapped}
 use Rattle.rules.specs.State.{pairs}
 use native.Mathlib.Omega.{arith}
-use borrow.Author.Rules.{rules}
 use Rattle.state.proofs.pair_count.Goals as goal
 
 pub returns : goal.returns

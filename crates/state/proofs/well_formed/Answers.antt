@@ -3,7 +3,6 @@ use Rattle.rules.proofs.Sound.{lists-lent}
 use Rattle.rules.specs.State.{well_formed}
 use native.Mathlib.Omega.{arith}
 use mathlib.Core.Path.{sym, ◌∙◌}
-use borrow.Author.Rules.{rules}
 use Rattle.state.proofs.well_formed.Goals as goal
 
 pub atom_slots_sound-requires : goal.atom_slots_sound-requires

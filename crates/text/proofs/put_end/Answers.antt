@@ -1,13 +1,14 @@
--- `text::put_end` meets its contract: the word and two numbers. Assumes nothing.
-use native.Mathlib.Omega.{arith}
+-- The word and two numbers.
 use Rattle.text.specs.Text.{end_text}
 use Rattle.text.proofs.Puts.{put_then}
-use borrow.Author.Rules.{rules}
 use Rattle.text.proofs.put_end.Goals as goal
 
-pub returns : goal.returns
+pub returns-clause-put : goal.returns-clause-put
 unfolding end_text
-returns c =
+returns-clause-put c =
     let a = c.args in
-    let f = put_then a.out.now c.put-w1.new.out c.put_number-w2.new.out _ _ a.w c.put-w1.result c.put_number-w2.result c.put-w1.ensures c.put_number-w2.ensures.put in
-    record { put = put_then a.out.now c.put_number-w2.new.out c.put_number.new.out _ _ a.w c.put_number-w2.result c.put_number.result f c.put_number.ensures.put; bound = omega (arith, c.put-w1.ensures.end, c.put_number-w2.ensures.bound, c.put_number.ensures.bound) }
+    let p = c.put-w1 in
+    let q = c.put_number-w2 in
+    let r = c.put_number in
+    let f = put_then a.out.now p.new.out q.new.out _ _ a.w p.result q.result p.ensures q.ensures.put in
+    put_then a.out.now q.new.out r.new.out _ _ a.w q.result r.result f r.ensures.put

@@ -1,9 +1,7 @@
--- `text::put_head` meets its contract: the bytes of the header. Assumes nothing.
+-- The bytes of the header.
 use Rattle.text.specs.Text.{head_text}
-use borrow.Author.Rules.{rules}
 use Rattle.text.proofs.put_head.Goals as goal
 
-pub returns : goal.returns
+pub returns-clause-put : goal.returns-clause-put
 unfolding head_text
-returns c =
-    record { put = c.put.ensures; end = c.put.ensures.end }
+returns-clause-put c = c.put.ensures

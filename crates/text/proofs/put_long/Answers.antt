@@ -1,9 +1,7 @@
--- `text::put_long` meets its contract: the bytes of the line. Assumes nothing.
+-- The bytes of the line.
 use Rattle.text.specs.Text.{long_text}
-use borrow.Author.Rules.{rules}
 use Rattle.text.proofs.put_long.Goals as goal
 
-pub returns : goal.returns
+pub returns-clause-put : goal.returns-clause-put
 unfolding long_text
-returns c =
-    record { put = c.put.ensures; end = c.put.ensures.end }
+returns-clause-put c = c.put.ensures

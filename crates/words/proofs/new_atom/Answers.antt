@@ -1,6 +1,5 @@
 -- `words::new_atom` meets its contract: what the call beneath promises, with the record in words. Assumes nothing.
 use Rattle.words.proofs.InWords.{in_words_by}
-use borrow.Author.Rules.{rules}
 use Rattle.words.proofs.new_atom.Goals as goal
 
 pub returns : goal.returns

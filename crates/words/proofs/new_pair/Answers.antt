@@ -1,6 +1,5 @@
 -- `words::new_pair` meets its contract: what the call beneath promises, with the record in words. Assumes nothing.
 use Rattle.words.proofs.InWords.{in_words_by}
-use borrow.Author.Rules.{rules}
 use Rattle.words.proofs.new_pair.Goals as goal
 
 pub returns : goal.returns

@@ -7,7 +7,6 @@ use mathlib.Core.Path.{◌≡◌}
 use Prim.Native.Nat.{◌-◌}
 use Rattle.rules.proofs.Smalls.{small-length}
 use native.Mathlib.Omega.{arith}
-use borrow.Author.Rules.{rules}
 use Rattle.concat.proofs.copies.copy_small.Goals as goal
 
 pub overflow_sub-from : goal.overflow_sub-from

@@ -1,16 +1,7 @@
 -- `concat::copies::copy_terms` meets its contract: what is copied, with what is left to copy, is the whole. Assumes nothing.
-use Rattle.concat.proofs.Terms.{Copied, copied_none, copied_room, copied_more, copied_all}
+use Rattle.concat.proofs.Terms.{copied_none, copied_room, copied_more, copied_all}
 use Rattle.rules.specs.State.{store, atom_slots}
-use lib.ListN.{length}
-use Prim.Native.Nat.{◌-◌}
-use borrow.Author.Rules.{rules}
 use Rattle.concat.proofs.copies.copy_terms.Goals as goal
-
--- left: no goal same-length now
--- same_length : tie.Need-same-length invariant-loop decreases-loop
--- same_length c =
---     let loop : tie.At-loop invariant-loop decreases-loop = search in
---     loop.loop.inv.long
 
 pub loop-i-init : goal.loop-i-init
 loop-i-init c =

@@ -1,5 +1,5 @@
 -- `concat::copies::copy_terms` meets its contract: what is copied, with what is left to copy, is the whole. Assumes nothing.
-use Rattle.concat.proofs.Terms.{Copied, copied_none, copied_room, copied_more, copied_all}
+use Rattle.concat.proofs.Terms.{Copied}
 use Rattle.rules.specs.State.{store, atom_slots}
 use lib.ListN.{length}
 use Prim.Native.Nat.{◌-◌}

@@ -1,19 +1,11 @@
 -- `concat::copies::copy_within` meets its contract: the first i bytes of the range stand at `at` once more. Assumes nothing.
 use Rattle.concat.proofs.Overs.{within_step, paste_over}
-use lib.Seq.{paste, paste-zero}
-use lib.ListN.{length, drop, length-set}
+use lib.Seq.{paste-zero}
+use lib.ListN.{drop, length-set}
 use native.Mathlib.Omega.{arith}
 use native.Mathlib.Nat.{le_antisymm}
-use mathlib.Core.Path.{◌≡◌, refl, ◌∙◌}
-use Prim.Native.Nat.{◌≤◌, ◌-◌}
-use borrow.Author.Rules.{rules}
+use mathlib.Core.Path.{refl, ◌∙◌}
 use Rattle.concat.proofs.copies.copy_within.Goals as goal
-
--- left: no goal same-length now
--- same_length : tie.Need-same-length invariant-loop decreases-loop
--- same_length c =
---     let loop : tie.At-loop invariant-loop decreases-loop = search in
---     loop.loop.inv.2
 
 pub overflow_sub-len : goal.overflow_sub-len
 overflow_sub-len c = omega arith

@@ -1,10 +1,7 @@
 -- `concat::copies::copy_within` meets its contract: the first i bytes of the range stand at `at` once more. Assumes nothing.
-use Rattle.concat.proofs.Overs.{within_step, paste_over}
-use lib.Seq.{paste, paste-zero}
-use lib.ListN.{length, drop, length-set}
-use native.Mathlib.Omega.{arith}
-use native.Mathlib.Nat.{le_antisymm}
-use mathlib.Core.Path.{◌≡◌, refl, ◌∙◌}
+use lib.Seq.{paste}
+use lib.ListN.{length, drop}
+use mathlib.Core.Path.{◌≡◌}
 use Prim.Native.Nat.{◌≤◌, ◌-◌}
 use Rattle.concat.proofs.copies.copy_within.Given as goal
 

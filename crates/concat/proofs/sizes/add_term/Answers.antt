@@ -6,7 +6,6 @@ use Rattle.rules.specs.Said.{need}
 use Rattle.rules.specs.Paper.{atom_paper}
 use Rattle.rules.proofs.Smalls.{small-length}
 use Rattle.rules.proofs.Args.{atom_in}
-use borrow.Author.Rules.{rules}
 use Rattle.concat.proofs.sizes.add_term.Goals as goal
 
 pub overflow_sub-to : goal.overflow_sub-to

@@ -1,11 +1,8 @@
 -- `concat::sizes::measure` meets its contract: what is left to scan, from the running length on, gives the whole scan's verdict. Assumes nothing.
-use Rattle.concat.proofs.Scans.{scan_cons, scan-more, scan-end}
-use Rattle.rules.specs.Paper.{number_paper}
 use Rattle.rules.specs.Creates.{scan}
 use Rattle.rules.specs.State.{atom_slots}
 use lib.ListN.{length, drop}
-use native.Mathlib.Omega.{arith}
-use mathlib.Core.Path.{◌≡◌, refl, sym, ap, ◌∙◌}
+use mathlib.Core.Path.{◌≡◌}
 use Prim.Native.Nat.{◌≤◌, ◌+◌, ◌-◌}
 use Rattle.concat.proofs.sizes.measure.Given as goal
 

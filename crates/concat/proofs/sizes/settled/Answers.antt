@@ -1,7 +1,6 @@
 -- `concat::sizes::settled` meets its contract. Assumes nothing.
 use borrow.Author.Tests.{eq-eqb, ne_eqb}
 use Rattle.rules.specs.Said.{need}
-use borrow.Author.Rules.{rules}
 use Rattle.concat.proofs.sizes.settled.Goals as goal
 
 pub returns-then-counter-size : goal.returns-then-counter-size

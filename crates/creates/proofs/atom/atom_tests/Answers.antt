@@ -2,7 +2,6 @@
 use Rattle.rules.proofs.Sound.{store-lent}
 use Rattle.rules.specs.Said.{need}
 use mathlib.Core.Path.{sym, ◌∙◌}
-use borrow.Author.Rules.{rules}
 use Rattle.creates.proofs.atom.atom_tests.Goals as goal
 
 pub limit_tests-requires : goal.limit_tests-requires

@@ -4,7 +4,6 @@ use Rattle.rules.specs.State.{atoms, heap}
 use Rattle.rules.specs.Said.{need}
 use native.Mathlib.Omega.{arith}
 use Prim.Native.Nat.{◌+◌, ◌≤◌, ◌<◌}
-use borrow.Author.Rules.{rules}
 use Rattle.creates.proofs.atom.limit_tests.Goals as goal
 
 pub returns-then-a-total : goal.returns-then-a-total

@@ -4,7 +4,6 @@ use Rattle.rules.specs.Paper.{verdict_paper}
 use Rattle.rules.specs.Creates.{atom_tests}
 use native.Mathlib.Omega.{arith}
 use mathlib.Core.Path.{sym, ap, ◌∙◌}
-use borrow.Author.Rules.{rules}
 use Rattle.creates.proofs.atom.new_atom.Goals as goal
 
 pub small_or-requires : goal.small_or-requires

@@ -2,7 +2,6 @@
 use mir.Syntax.{w64}
 use mir.ValLaws.{to_z-of_z}
 use Rattle.creates.proofs.Numbers.{written-part, written-length}
-use borrow.Author.Rules.{rules}
 use Rattle.creates.proofs.atom.new_i64.Goals as goal
 
 pub slice_bounds-new_atom-end : goal.slice_bounds-new_atom-end

@@ -3,7 +3,6 @@ use Rattle.creates.proofs.Rooms.{small_passed}
 use Rattle.rules.specs.Paper.{verdict_paper}
 use native.Mathlib.Omega.{arith}
 use mathlib.Core.Path.{sym, ap, ◌∙◌}
-use borrow.Author.Rules.{rules}
 use Rattle.creates.proofs.atom.new_small_number.Goals as goal
 
 pub new-requires : goal.new-requires

@@ -1,6 +1,5 @@
 -- `creates::atom::new_u64` meets its contract: new_atom on the bytes that the writer wrote. Assumes nothing.
 use Rattle.creates.proofs.Numbers.{written-part, written-length}
-use borrow.Author.Rules.{rules}
 use Rattle.creates.proofs.atom.new_u64.Goals as goal
 
 pub slice_bounds-new_atom-end : goal.slice_bounds-new_atom-end

@@ -3,7 +3,6 @@ use Rattle.rules.proofs.Smalls.{fits-value}
 use Rattle.rules.specs.Paper.{fits_paper}
 use native.Mathlib.Omega.{arith}
 use mathlib.Core.Path.{sym, ap, ◌∙◌}
-use borrow.Author.Rules.{rules}
 use Rattle.creates.proofs.atom.small_or.Goals as goal
 
 pub new-requires : goal.new-requires

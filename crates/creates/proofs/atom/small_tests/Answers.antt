@@ -4,7 +4,6 @@ use Rattle.rules.specs.Creates.{small_tests}
 use Rattle.rules.specs.Said.{need}
 use borrow.Author.Tests.{le-leb, lt-leb}
 use mathlib.Core.Path.{sym, ◌∙◌}
-use borrow.Author.Rules.{rules}
 use Rattle.creates.proofs.atom.small_tests.Goals as goal
 
 pub returns-then-v-gt-LARGEST_SMALL : goal.returns-then-v-gt-LARGEST_SMALL

@@ -8,7 +8,6 @@ use lib.ListN.{length, length-take, length-drop}
 use Prim.Native.Nat.{◌+◌, ◌≤◌}
 use native.Mathlib.Omega.{arith}
 use mathlib.Core.Path.{sym, ◌∙◌}
-use borrow.Author.Rules.{rules}
 use Rattle.creates.proofs.atom.store_atom.Goals as goal
 
 pub slice_bounds-copy-count : goal.slice_bounds-copy-count
@@ -71,7 +70,7 @@ unfolding store_atom need
 returns-then-store_room c =
     let room-here : let s = c.args in StoreRoom s.a (length s.v.now) (length s.bytes.now) (length s.starts.now) (length s.ends.now) = store-room _ _ _ _ _ (sym c.store_room.ensures ∙ c.if-store_room.true) in
     let s = c.args in
-    let h : s.a.used.bytes + length s.v.now ≤ length s.bytes.now = (room-here).held in
+    let h : s.a.used.bytes + length s.v.now ≤ length s.bytes.now = room-here.held in
     simp (c.used_atom.ensures, c.new.ensures, ← c.store_room.ensures, c.if-store_room.true, tail_over s.bytes.now s.v.now c.copy.new.to s.a.used.bytes h c.copy.ensures.value)
 
 pub returns : goal.returns

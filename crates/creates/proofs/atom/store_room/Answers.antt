@@ -3,7 +3,6 @@ use mathlib.Core.Path.{◌∙◌}
 use Rattle.rules.proofs.Tests.{tests, next_fits}
 use native.Mathlib.Omega.{arith}
 use Prim.Native.Nat.{◌+◌, ◌≤◌, ◌<◌}
-use borrow.Author.Rules.{rules}
 use Rattle.creates.proofs.atom.store_room.Goals as goal
 
 pub returns-then-end-gt-TOP : goal.returns-then-end-gt-TOP

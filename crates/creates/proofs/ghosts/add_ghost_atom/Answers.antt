@@ -7,7 +7,6 @@ use borrow.Author.Tests.{le-leb, lt-leb}
 use native.Mathlib.Omega.{arith}
 use mathlib.Core.Path.{sym, ◌∙◌}
 use Prim.Native.Nat.{◌+◌, ◌≤◌, ◌<◌}
-use borrow.Author.Rules.{rules}
 use Rattle.creates.proofs.ghosts.add_ghost_atom.Goals as goal
 
 pub overflow_add-a : goal.overflow_add-a

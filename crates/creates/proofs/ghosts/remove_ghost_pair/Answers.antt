@@ -2,7 +2,6 @@
 use Rattle.rules.specs.Creates.{remove_ghost_pair}
 use Rattle.rules.specs.Said.{need}
 use borrow.Author.Tests.{le-leb, lt-leb}
-use borrow.Author.Rules.{rules}
 use Rattle.creates.proofs.ghosts.remove_ghost_pair.Goals as goal
 
 pub returns-then-a-amount : goal.returns-then-a-amount

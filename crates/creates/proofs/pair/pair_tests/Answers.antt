@@ -6,7 +6,6 @@ use Rattle.rules.specs.Said.{need}
 use borrow.Author.Tests.{lt-ltb, le-ltb}
 use native.Mathlib.Omega.{arith}
 use Prim.Native.Nat.{◌≤◌, ◌<◌}
-use borrow.Author.Rules.{rules}
 use Rattle.creates.proofs.pair.pair_tests.Goals as goal
 
 pub returns-then-total-ge-MOST : goal.returns-then-total-ge-MOST

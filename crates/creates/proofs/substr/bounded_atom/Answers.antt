@@ -3,7 +3,6 @@ use Rattle.rules.proofs.Args.{atom_in}
 use Rattle.rules.specs.Paper.{atom_paper}
 use native.Mathlib.Omega.{arith}
 use mathlib.Core.Path.{sym, ap, ◌∙◌}
-use borrow.Author.Rules.{rules}
 use Rattle.creates.proofs.substr.bounded_atom.Goals as goal
 
 pub overflow_sub-to : goal.overflow_sub-to

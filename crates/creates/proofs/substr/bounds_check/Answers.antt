@@ -1,7 +1,6 @@
 -- `creates::substr::bounds_check` meets its contract. Assumes nothing.
 use Rattle.rules.proofs.Tests.{tests}
 use Rattle.rules.specs.Said.{need}
-use borrow.Author.Rules.{rules}
 use Rattle.creates.proofs.substr.bounds_check.Goals as goal
 
 pub returns-then-len-start : goal.returns-then-len-start

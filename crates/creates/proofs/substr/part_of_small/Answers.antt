@@ -6,7 +6,6 @@ use lib.ListN.{length-append}
 use Rattle.creates.proofs.Parts.{small-part}
 use Rattle.rules.proofs.Smalls.{small-length, length-be}
 use native.Mathlib.Omega.{arith}
-use borrow.Author.Rules.{rules}
 use Rattle.creates.proofs.substr.part_of_small.Goals as goal
 
 pub overflow_sub-from : goal.overflow_sub-from

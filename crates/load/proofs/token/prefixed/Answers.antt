@@ -3,14 +3,7 @@ use Prim.Native.Nat.{ℕ, ◌+◌, ◌-◌}
 use native.Mathlib.Omega.{arith}
 use lib.ListN.{drop, length-take}
 use Rattle.load.proofs.Tokens.{length-is, prefix-cut, bytes_cut, bytes_in}
-use borrow.Author.Rules.{rules}
 use Rattle.load.proofs.token.prefixed.Goals as goal
-
--- left: no goal overflow-cast-first now
--- cast-first : tie.Need-overflow-cast-first
--- cast-first c =
---     let start : tie.Start = search in
---     omega (arith, c.shared-slice-known2.given start.args.at)
 
 pub returns-then-left-k : goal.returns-then-left-k
 returns-then-left-k c =

@@ -6,7 +6,6 @@ use Rattle.rules.specs.Serial.{prefixed}
 use Rattle.serial.proofs.Table.{extra_in}
 use Rattle.serial.proofs.Tokens.{token-byte, token-opening}
 use Rattle.load.proofs.Tokens.{token_end, token_none, token-prefix}
-use borrow.Author.Rules.{rules}
 use Rattle.load.proofs.token.token_at.Goals as goal
 
 pub returns-then-f-at : goal.returns-then-f-at

@@ -1,9 +1,8 @@
 -- `machine::calls::go_back` meets its contract: one restore for each way. Assumes nothing.
 use mathlib.Core.Path.{ap}
 use Rattle.rules.specs.State.{lists, atom_slots, pair_slots}
-use Rattle.rules.specs.Whole.{St, alone, on_store, nodeless as withoutNode}
+use Rattle.rules.specs.Whole.{alone, on_store, nodeless as withoutNode}
 use Rattle.machine.specs.Machine.{state_in}
-use borrow.Author.Rules.{rules}
 use Rattle.machine.proofs.calls.go_back.Goals as goal
 
 pub returns-in-Plainly : goal.returns-in-Plainly

@@ -4,7 +4,6 @@ use mathlib.Core.List.{List}
 use mathlib.Core.Path.{ap, ◌∙◌}
 use Rattle.rules.specs.State.{store, atom_slots}
 use Rattle.rules.specs.Creates.{new_concat}
-use borrow.Author.Rules.{rules}
 use Rattle.machine.proofs.calls.new_concat.Goals as goal
 
 pub returns : goal.returns

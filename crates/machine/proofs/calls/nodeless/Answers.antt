@@ -1,6 +1,5 @@
 -- `machine::calls::nodeless` meets its contract: the two verdicts. Assumes nothing.
 use mathlib.Core.Path.{refl}
-use borrow.Author.Rules.{rules}
 use Rattle.machine.proofs.calls.nodeless.Goals as goal
 
 pub returns-in-Refused : goal.returns-in-Refused

@@ -1,5 +1,4 @@
 -- `machine::calls::of_changed` meets its contract: the two verdicts. Assumes nothing.
-use borrow.Author.Rules.{rules}
 use Rattle.machine.proofs.calls.of_changed.Goals as goal
 
 pub returns-in-Done : goal.returns-in-Done

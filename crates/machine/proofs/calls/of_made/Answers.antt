@@ -1,5 +1,4 @@
 -- `machine::calls::of_made` meets its contract: a node, or a refusal. Assumes nothing.
-use borrow.Author.Rules.{rules}
 use Rattle.machine.proofs.calls.of_made.Goals as goal
 
 pub returns-in-Node : goal.returns-in-Node

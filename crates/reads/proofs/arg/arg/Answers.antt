@@ -2,7 +2,6 @@
 use Rattle.rules.specs.Reads.{arg_of}
 use Rattle.rules.specs.Said.{need}
 use borrow.Author.Tests.{lt-ltb, le-ltb}
-use borrow.Author.Rules.{rules}
 use Rattle.reads.proofs.arg.arg.Goals as goal
 
 pub returns-then-i-a : goal.returns-then-i-a

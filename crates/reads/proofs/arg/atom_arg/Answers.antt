@@ -1,5 +1,4 @@
 -- `reads::arg::atom_arg` meets its contract. Assumes nothing.
-use borrow.Author.Rules.{rules}
 use Rattle.reads.proofs.arg.atom_arg.Goals as goal
 
 pub returns-in-Pair : goal.returns-in-Pair

@@ -1,5 +1,4 @@
 -- `reads::arg::atom_of` meets its contract. Assumes nothing.
-use borrow.Author.Rules.{rules}
 use Rattle.reads.proofs.arg.atom_of.Goals as goal
 
 pub returns : goal.returns

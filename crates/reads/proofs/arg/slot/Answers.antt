@@ -2,7 +2,6 @@
 use Rattle.rules.specs.Reads.{arg_of}
 use Rattle.rules.specs.Said.{need}
 use borrow.Author.Tests.{lt-ltb, le-ltb}
-use borrow.Author.Rules.{rules}
 use Rattle.reads.proofs.arg.slot.Goals as goal
 
 pub returns-then-a-i : goal.returns-then-a-i

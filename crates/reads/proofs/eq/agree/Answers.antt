@@ -1,13 +1,9 @@
 -- `reads::eq::agree` meets its contract. The loop's invariant: the whole is equal where no byte was odd so far and the rests from i on are. Assumes nothing.
-use Prim.Native.Nat.{◌≤◌, ◌-◌}
-use mathlib.Core.Path.{◌≡◌, refl, sym, ap, ◌∙◌}
+use mathlib.Core.Path.{refl, sym, ap, ◌∙◌}
 use mathlib.Core.Bool.{◌&&◌, and-false, and-true}
 use native.Mathlib.Omega.{arith}
 use lib.Dec.{eqb}
-use lib.ListN.{length, drop}
-use Rattle.rules.specs.Reads.{same_bytes}
 use Rattle.reads.proofs.Laws.{same_step, same_stop, same_end}
-use borrow.Author.Rules.{rules}
 use Rattle.reads.proofs.eq.agree.Goals as goal
 
 pub loop-i-init : goal.loop-i-init

@@ -1,11 +1,10 @@
 -- `reads::eq::ahead` meets its contract. The loop's invariant: the rests from i on compare as those from the start do. Assumes nothing.
-use Prim.Native.Nat.{◌≤◌, ◌-◌, ◌+◌}
+use Prim.Native.Nat.{◌-◌, ◌+◌}
 use mathlib.Core.Path.{◌≡◌, refl, sym, ap, ◌∙◌}
 use native.Mathlib.Omega.{arith}
-use lib.ListN.{length, drop, length-take, length-drop}
+use lib.ListN.{drop, length-take, length-drop}
 use Rattle.rules.specs.Reads.{same_bytes}
 use Rattle.reads.proofs.Laws.{same_block, odd_block}
-use borrow.Author.Rules.{rules}
 use Rattle.reads.proofs.eq.ahead.Goals as goal
 
 pub loop-i-init : goal.loop-i-init

@@ -1,10 +1,8 @@
 -- `reads::eq::ahead` meets its contract. The loop's invariant: the rests from i on compare as those from the start do. Assumes nothing.
-use Prim.Native.Nat.{◌≤◌, ◌-◌, ◌+◌}
-use mathlib.Core.Path.{◌≡◌, refl, sym, ap, ◌∙◌}
-use native.Mathlib.Omega.{arith}
-use lib.ListN.{length, drop, length-take, length-drop}
+use Prim.Native.Nat.{◌≤◌, ◌-◌}
+use mathlib.Core.Path.{◌≡◌}
+use lib.ListN.{length, drop}
 use Rattle.rules.specs.Reads.{same_bytes}
-use Rattle.reads.proofs.Laws.{same_block, odd_block}
 use Rattle.reads.proofs.eq.ahead.Given as goal
 
 abbrev pub invariant-loop-i : goal.invariant-loop-i

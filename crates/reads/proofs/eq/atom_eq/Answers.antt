@@ -5,7 +5,6 @@ use Rattle.rules.specs.Reads.{atom_eq}
 use Rattle.rules.specs.Said.{need}
 use native.Mathlib.Omega.{arith}
 use mathlib.Core.Path.{sym, ◌∙◌}
-use borrow.Author.Rules.{rules}
 use Rattle.reads.proofs.eq.atom_eq.Goals as goal
 
 pub arg-left-requires : goal.arg-left-requires

@@ -4,23 +4,22 @@ use Rattle.rules.proofs.Lists.{part_slice}
 use Prim.Native.Nat.{◌≤◌}
 use native.Mathlib.Omega.{arith}
 use lib.ListN.{length}
-use borrow.Author.Rules.{rules}
 use Rattle.reads.proofs.eq.bytes_eq.Goals as goal
 
 pub slice_bounds-same-count : goal.slice_bounds-same-count
 slice_bounds-same-count c =
-    let right-in-here : (c.in-Range.start ≤ c.in-Range.end) × (c.in-Range.end ≤ length c.args.bytes.now) = rw c.in-Range.is at c.requires in
-    omega (arith, right-in-here)
+    let right-in : (c.in-Range.start ≤ c.in-Range.end) × (c.in-Range.end ≤ length c.args.bytes.now) = rw c.in-Range.is at c.requires in
+    omega (arith, right-in)
 
 pub slice_bounds-same-start : goal.slice_bounds-same-start
 slice_bounds-same-start c =
-    let right-in-here : (c.in-Range.start ≤ c.in-Range.end) × (c.in-Range.end ≤ length c.args.bytes.now) = rw c.in-Range.is at c.requires in
-    omega (arith, right-in-here)
+    let right-in : (c.in-Range.start ≤ c.in-Range.end) × (c.in-Range.end ≤ length c.args.bytes.now) = rw c.in-Range.is at c.requires in
+    omega (arith, right-in)
 
 pub slice_bounds-same-end : goal.slice_bounds-same-end
 slice_bounds-same-end c =
-    let right-in-here : (c.in-Range.start ≤ c.in-Range.end) × (c.in-Range.end ≤ length c.args.bytes.now) = rw c.in-Range.is at c.requires in
-    omega (arith, right-in-here)
+    let right-in : (c.in-Range.start ≤ c.in-Range.end) × (c.in-Range.end ≤ length c.args.bytes.now) = rw c.in-Range.is at c.requires in
+    omega (arith, right-in)
 
 pub same_small-requires : goal.same_small-requires
 same_small-requires c =
@@ -28,8 +27,8 @@ same_small-requires c =
 
 pub returns-in-Range : goal.returns-in-Range
 returns-in-Range c =
-    let right-in-here : (c.in-Range.start ≤ c.in-Range.end) × (c.in-Range.end ≤ length c.args.bytes.now) = rw c.in-Range.is at c.requires in
-    simp (c.truth.ensures, c.same.ensures, c.in-Range.is, part_slice _ _ c.args.bytes.now (right-in-here).0)
+    let right-in : (c.in-Range.start ≤ c.in-Range.end) × (c.in-Range.end ≤ length c.args.bytes.now) = rw c.in-Range.is at c.requires in
+    simp (c.truth.ensures, c.same.ensures, c.in-Range.is, part_slice _ _ c.args.bytes.now right-in.0)
 
 pub returns-in-Value : goal.returns-in-Value
 returns-in-Value c =

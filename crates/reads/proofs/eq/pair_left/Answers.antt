@@ -1,5 +1,4 @@
 -- `reads::eq::pair_left` meets its contract. Assumes nothing.
-use borrow.Author.Rules.{rules}
 use Rattle.reads.proofs.eq.pair_left.Goals as goal
 
 pub returns-in-Refused : goal.returns-in-Refused

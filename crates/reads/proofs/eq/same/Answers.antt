@@ -3,7 +3,6 @@ use mathlib.Core.Path.{sym, ap₂, ◌∙◌}
 use native.Mathlib.Omega.{arith}
 use Rattle.rules.specs.Reads.{same_bytes}
 use Rattle.reads.proofs.Laws.{same_lengths, part_tail}
-use borrow.Author.Rules.{rules}
 use Rattle.reads.proofs.eq.same.Goals as goal
 
 pub returns-then-x-y : goal.returns-then-x-y

@@ -3,7 +3,6 @@ use Rattle.reads.proofs.Laws.{same-fits, same-unfit}
 use Rattle.rules.specs.Paper.{fits_paper}
 use native.Mathlib.Omega.{arith}
 use mathlib.Core.Path.{sym, ap, ◌∙◌}
-use borrow.Author.Rules.{rules}
 use Rattle.reads.proofs.eq.same_small.Goals as goal
 
 pub returns-in-Value : goal.returns-in-Value

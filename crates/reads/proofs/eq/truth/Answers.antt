@@ -1,5 +1,4 @@
 -- `reads::eq::truth` meets its contract. Assumes nothing.
-use borrow.Author.Rules.{rules}
 use Rattle.reads.proofs.eq.truth.Goals as goal
 
 pub returns-then-b : goal.returns-then-b

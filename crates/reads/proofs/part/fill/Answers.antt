@@ -1,7 +1,6 @@
 -- `reads::part::fill` meets its contract. Assumes nothing.
 use mathlib.Core.Path.{sym, ap, ◌∙◌}
 use Rattle.rules.specs.Paper.{atom_paper}
-use borrow.Author.Rules.{rules}
 use Rattle.reads.proofs.part.fill.Goals as goal
 
 pub returns-in-Range : goal.returns-in-Range

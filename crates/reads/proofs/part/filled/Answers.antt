@@ -4,13 +4,12 @@ use native.Mathlib.Omega.{arith}
 use lib.ListN.{length}
 use Rattle.rules.specs.Paper.{atom_paper}
 use Rattle.reads.proofs.Laws.{part_says, whole_scratch}
-use borrow.Author.Rules.{rules}
 use Rattle.reads.proofs.part.filled.Goals as goal
 
 pub put_be-requires : goal.put_be-requires
 put_be-requires c =
-    let four-here : length c.args.scratch.now ≡ 4 = (part_says _ _ _ _ _ _ (sym c.part_of-part.ensures ∙ ap atom_paper c.in-Value.is)).1 in
-    omega (arith, four-here)
+    let four : length c.args.scratch.now ≡ 4 = (part_says _ _ _ _ _ _ (sym c.part_of-part.ensures ∙ ap atom_paper c.in-Value.is)).1 in
+    omega (arith, four)
 
 pub returns-in-Range : goal.returns-in-Range
 returns-in-Range c =
@@ -19,9 +18,9 @@ returns-in-Range c =
 
 pub returns-in-Value : goal.returns-in-Value
 returns-in-Value c =
-    let four-here : length c.args.scratch.now ≡ 4 = (part_says _ _ _ _ _ _ (sym c.part_of-part.ensures ∙ ap atom_paper c.in-Value.is)).1 in
+    let four : length c.args.scratch.now ≡ 4 = (part_says _ _ _ _ _ _ (sym c.part_of-part.ensures ∙ ap atom_paper c.in-Value.is)).1 in
     let e = sym c.part_of-part.ensures ∙ ap atom_paper c.in-Value.is in
-    record { answer = simp e; scratch = c.put_be.ensures ∙ whole_scratch _ c.args.scratch.now (four-here) ∙ simp e }
+    record { answer = simp e; scratch = c.put_be.ensures ∙ whole_scratch _ c.args.scratch.now four ∙ simp e }
 
 pub returns-in-Refused : goal.returns-in-Refused
 returns-in-Refused c =

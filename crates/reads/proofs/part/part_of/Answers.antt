@@ -5,7 +5,6 @@ use Rattle.rules.specs.Said.{need}
 use borrow.Author.Tests.{eq-eqb, ne_eqb}
 use native.Mathlib.Omega.{arith}
 use mathlib.Core.Path.{sym, ◌∙◌}
-use borrow.Author.Rules.{rules}
 use Rattle.reads.proofs.part.part_of.Goals as goal
 
 pub atom_of-found-requires : goal.atom_of-found-requires

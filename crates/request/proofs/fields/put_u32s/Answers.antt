@@ -1,20 +1,13 @@
 -- `request::fields::put_u32s` meets its contract: the numbers so far stand at the front. Assumes nothing.
 use Rattle.request.specs.Bytes.{u32s_to}
 use lib.Seq.{take-suc-set, length-take-le}
-use lib.ListN.{length, take, length-set}
+use lib.ListN.{length, length-set}
 use native.Mathlib.Omega.{arith}
 use native.Mathlib.Numerals.{add-one}
-use Prim.Native.Nat.{ℕ, ◌+◌, ◌/◌, ◌-◌, ◌≤◌, ◌<◌}
+use Prim.Native.Nat.{ℕ, ◌/◌, ◌<◌}
 use mathlib.Core.List.{List, [], ◌∷◌, ◌++◌}
 use mathlib.Core.Path.{◌≡◌, refl, sym, ap₂}
-use borrow.Author.Rules.{rules}
 use Rattle.request.proofs.fields.put_u32s.Goals as goal
-
--- left: no goal same-length now
--- same_length : tie.Need-same-length invariant-loop decreases-loop
--- same_length c =
---     let loop : tie.At-loop invariant-loop decreases-loop = search in
---     loop.loop.inv.2
 
 pub loop-i-init : goal.loop-i-init
 unfolding u32s_to

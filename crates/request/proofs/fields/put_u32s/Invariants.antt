@@ -1,12 +1,8 @@
 -- `request::fields::put_u32s` meets its contract: the numbers so far stand at the front. Assumes nothing.
 use Rattle.request.specs.Bytes.{u32s_to}
-use lib.Seq.{take-suc-set, length-take-le}
-use lib.ListN.{length, take, length-set}
-use native.Mathlib.Omega.{arith}
-use native.Mathlib.Numerals.{add-one}
-use Prim.Native.Nat.{ℕ, ◌+◌, ◌/◌, ◌-◌, ◌≤◌, ◌<◌}
-use mathlib.Core.List.{List, [], ◌∷◌, ◌++◌}
-use mathlib.Core.Path.{◌≡◌, refl, sym, ap₂}
+use lib.ListN.{length, take}
+use Prim.Native.Nat.{◌/◌, ◌-◌, ◌≤◌}
+use mathlib.Core.Path.{◌≡◌}
 use Rattle.request.proofs.fields.put_u32s.Given as goal
 
 abbrev pub invariant-loop-i : goal.invariant-loop-i

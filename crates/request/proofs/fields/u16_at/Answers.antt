@@ -1,7 +1,6 @@
 -- `request::fields::u16_at` meets its contract: a byte is below 256. Assumes nothing.
 use native.Mathlib.Omega.{arith}
 use Prim.Native.Nat.{◌+◌}
-use borrow.Author.Rules.{rules}
 use Rattle.request.proofs.fields.u16_at.Goals as goal
 
 pub overflow_mul-result : goal.overflow_mul-result

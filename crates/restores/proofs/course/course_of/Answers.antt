@@ -1,12 +1,11 @@
 -- `restores::course::course_of` meets its contract: the tests in document 01's order. Assumes nothing.
 use Rattle.rules.proofs.Sound.{lists-lent}
 use Rattle.rules.proofs.Tests.{both}
-use Rattle.rules.specs.Restores.{course, savings}
+use Rattle.rules.specs.Restores.{course}
 use Rattle.rules.specs.Said.{need}
 use borrow.Author.Tests.{lt-ltb, le-ltb}
 use native.Mathlib.Omega.{arith}
 use mathlib.Core.Path.{sym, ◌∙◌}
-use borrow.Author.Rules.{rules}
 use Rattle.restores.proofs.course.course_of.Goals as goal
 
 pub usable-requires : goal.usable-requires

@@ -8,7 +8,6 @@ use Rattle.rules.specs.Said.{need}
 use borrow.Author.Tests.{lt-ltb, le-ltb, le-leb, lt-leb}
 use native.Mathlib.Omega.{arith}
 use mathlib.Core.Path.{sym, ap, ◌∙◌}
-use borrow.Author.Rules.{rules}
 use Rattle.restores.proofs.course.new_course.Goals as goal
 
 pub returns-in_default : goal.returns-in_default

@@ -3,7 +3,6 @@ use Rattle.restores.proofs.Ables.{within-tells}
 use Rattle.rules.specs.Restores.{usable}
 use native.Mathlib.Omega.{arith}
 use mathlib.Core.Path.{sym, ◌∙◌}
-use borrow.Author.Rules.{rules}
 use Rattle.restores.proofs.course.usable.Goals as goal
 
 pub atom_slots_sound-requires : goal.atom_slots_sound-requires

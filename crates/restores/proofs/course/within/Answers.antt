@@ -1,6 +1,5 @@
 -- `restores::course::within` meets its contract. Assumes nothing.
 use Rattle.rules.proofs.Tests.{tests}
-use borrow.Author.Rules.{rules}
 use Rattle.restores.proofs.course.within.Goals as goal
 
 pub returns-then-used-k : goal.returns-then-used-k

@@ -1,6 +1,5 @@
 -- `save::atom::alone` meets its contract. Assumes nothing.
 use borrow.Author.Tests.{eq-eqb, ne_eqb}
-use borrow.Author.Rules.{rules}
 use Rattle.save.proofs.atom.alone.Goals as goal
 
 pub returns-then-v-eq1 : goal.returns-then-v-eq1

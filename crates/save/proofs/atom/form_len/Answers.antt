@@ -3,7 +3,6 @@ use mathlib.Core.Path.{sym, ap, ◌∙◌}
 use native.Mathlib.Omega.{arith}
 use lib.ListN.{length}
 use Rattle.save.proofs.Prefixes.{alone-form, alone-length, behind-length}
-use borrow.Author.Rules.{rules}
 use Rattle.save.proofs.atom.form_len.Goals as goal
 
 pub returns-then-alone : goal.returns-then-alone

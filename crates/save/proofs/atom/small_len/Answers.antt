@@ -7,7 +7,6 @@ use Rattle.rules.specs.Small.{small_bytes}
 use Rattle.rules.specs.Serial.{shortest_atom}
 use Rattle.rules.proofs.Smalls.{small-length}
 use Rattle.rules.proofs.Smalls.{last-part}
-use borrow.Author.Rules.{rules}
 use Rattle.save.proofs.atom.small_len.Goals as goal
 
 pub overflow_sub-from : goal.overflow_sub-from

@@ -1,11 +1,7 @@
 -- `state::sound::atom_slots_sound` meets its contract: the slots passed are sound. Assumes nothing.
 use Rattle.rules.proofs.Alls.{all_none, all_more, all_false}
-use Rattle.rules.specs.State.{all, atom_slots, atom_slot_sound}
 use native.Mathlib.Omega.{arith}
-use mathlib.Core.Bool.{true}
 use mathlib.Core.Path.{◌≡◌, sym, ◌∙◌}
-use Prim.Native.Nat.{◌≤◌, ◌-◌}
-use borrow.Author.Rules.{rules}
 use Rattle.state.proofs.sound.atom_slots_sound.Goals as goal
 
 pub loop-i-init : goal.loop-i-init

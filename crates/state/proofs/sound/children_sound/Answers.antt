@@ -1,5 +1,4 @@
 -- `state::sound::children_sound` meets its contract. Assumes nothing.
-use borrow.Author.Rules.{rules}
 use Rattle.state.proofs.sound.children_sound.Goals as goal
 
 pub returns-then-valid : goal.returns-then-valid

@@ -1,6 +1,5 @@
 -- `state::sound::fit` meets its contract. Assumes nothing.
 use Rattle.rules.proofs.Tests.{tests}
-use borrow.Author.Rules.{rules}
 use Rattle.state.proofs.sound.fit.Goals as goal
 
 pub returns-then-one-n : goal.returns-then-one-n

@@ -3,7 +3,6 @@ use Prim.Native.Nat.{◌+◌, ◌*◌, ◌≤◌, ◌<◌}
 use native.Mathlib.Omega.{arith}
 use Rattle.rules.proofs.Tests.{tests, same-leb}
 use Rattle.rules.specs.State.{limits_sound, atoms, pairs, heap}
-use borrow.Author.Rules.{rules}
 use Rattle.state.proofs.sound.limits_sound.Goals as goal
 
 pub returns-then-a-gt-TOP : goal.returns-then-a-gt-TOP

@@ -1,5 +1,4 @@
 -- `state::sound::lists_sound` meets its contract. Assumes nothing.
-use borrow.Author.Rules.{rules}
 use Rattle.state.proofs.sound.lists_sound.Goals as goal
 
 pub returns-then-slots_sound : goal.returns-then-slots_sound

@@ -1,9 +1,7 @@
 -- `state::sound::pair_slots_sound` meets its contract: the slots passed are sound. Assumes nothing.
-use Rattle.rules.proofs.Alls.{all_none, all_more, all_false}
 use Rattle.rules.specs.State.{all, pair_slots, pair_slot_sound}
-use native.Mathlib.Omega.{arith}
 use mathlib.Core.Bool.{true}
-use mathlib.Core.Path.{◌≡◌, sym, ◌∙◌}
+use mathlib.Core.Path.{◌≡◌}
 use Prim.Native.Nat.{◌≤◌, ◌-◌}
 use Rattle.state.proofs.sound.pair_slots_sound.Given as goal
 

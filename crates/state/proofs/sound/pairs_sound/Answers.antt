@@ -1,5 +1,4 @@
 -- `state::sound::pairs_sound` meets its contract. Assumes nothing.
-use borrow.Author.Rules.{rules}
 use Rattle.state.proofs.sound.pairs_sound.Goals as goal
 
 pub returns-then-limits_sound : goal.returns-then-limits_sound

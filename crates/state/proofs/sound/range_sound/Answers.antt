@@ -1,6 +1,5 @@
 -- `state::sound::range_sound` meets its contract. Assumes nothing.
 use Rattle.rules.proofs.Tests.{tests}
-use borrow.Author.Rules.{rules}
 use Rattle.state.proofs.sound.range_sound.Goals as goal
 
 pub returns-then-end-start : goal.returns-then-end-start

@@ -1,5 +1,4 @@
 -- `state::sound::slots_sound` meets its contract. Assumes nothing.
-use borrow.Author.Rules.{rules}
 use Rattle.state.proofs.sound.slots_sound.Goals as goal
 
 pub returns-then-atoms_sound : goal.returns-then-atoms_sound

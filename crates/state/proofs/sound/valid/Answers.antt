@@ -1,7 +1,6 @@
 -- `state::sound::valid` meets its contract: by the view of the node. Assumes nothing.
 use Rattle.rules.specs.Paper.{view_paper}
 use mathlib.Core.Path.{sym, ap, ◌∙◌}
-use borrow.Author.Rules.{rules}
 use Rattle.state.proofs.sound.valid.Goals as goal
 
 pub returns-in-Pair : goal.returns-in-Pair

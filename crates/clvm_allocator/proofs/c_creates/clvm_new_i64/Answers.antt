@@ -1,0 +1,13 @@
+-- `clvm_allocator::c_creates::clvm_new_i64` meets its contract: clvm_new_atom on the bytes that the writer wrote; a signed number is that of its bits.
+use mir.Syntax.{w64}
+use mir.ValLaws.{to_z-of_z}
+use Rattle.creates.proofs.Numbers.{written-part, written-length}
+use Rattle.clvm_allocator.proofs.c_creates.clvm_new_i64.Goals as goal
+
+pub slice_bounds-clvm_new_atom-end : goal.slice_bounds-clvm_new_atom-end
+slice_bounds-clvm_new_atom-end c =
+    written-length _ _ _ _ c.write_i64-n.ensures
+
+pub returns : goal.returns
+returns c =
+    simp (to_z-of_z w64 c.args.x c.ranges.x, c.clvm_new_atom.ensures, written-part _ _ _ _ c.write_i64-n.ensures)
