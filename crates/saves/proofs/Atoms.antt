@@ -1,6 +1,6 @@
 -- In a well-formed state every atom of a valid node's tree is short enough to have a form, and its numbers are bytes; so are its shortest form's.
 -- Assumes nothing.
-use Prim.Native.Nat.{ℕ, zero, suc, ◌+◌, ◌≤◌, ◌<◌}
+use Prim.Native.Nat.{ℕ, zero, suc, ◌≤◌, ◌<◌}
 use mathlib.Core.Path.{◌≡◌, refl, sym, subst}
 use mathlib.Core.Bool.{◌&&◌}
 use mathlib.Core.List.{List, ◌∷◌, ◌++◌}
