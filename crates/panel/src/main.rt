@@ -15,7 +15,7 @@ use outline::page;
 use outline::page::Block;
 use source::End;
 use std::env::FillError;
-use std::io::{Error, Result, Write};
+use std::io::{Error, Read, Result, Write};
 use std::rt::{Env, Files};
 
 // The longest file.
@@ -52,8 +52,9 @@ fn give_up<W: Write, E: Write>(
 }
 
 // Shows the file of a name.
-fn show<R: Files + Input, W: Write, E: Write>(
+fn show<R: Files, I: Read + Drop, W: Write, E: Write>(
     rt: &R,
+    input: &mut Option<I>,
     to: &mut W,
     err: &mut E,
     name: &[u8],
@@ -62,7 +63,7 @@ fn show<R: Files + Input, W: Write, E: Write>(
     let mut file = file_buffer();
     let mut out = io::large_buffer();
     let w = lines::put_named(to, &mut out, 0, b"file ", name)?;
-    let got = source::fetch(rt, name, &mut file);
+    let got = source::fetch(rt, input, name, &mut file);
     let n = got.n;
     let end = got.end;
     match end {
@@ -99,8 +100,9 @@ fn fill<R: Env>(rt: &R, i: usize, name: &mut [u8]) -> Option<usize>
 }
 
 // One argument: a depth, or a file to show.
-fn argument<R: Files + Input, W: Write, E: Write>(
+fn argument<R: Files, I: Read + Drop, W: Write, E: Write>(
     rt: &R,
+    input: &mut Option<I>,
     to: &mut W,
     err: &mut E,
     name: &[u8],
@@ -113,7 +115,7 @@ fn argument<R: Files + Input, W: Write, E: Write>(
             file: seen.file,
         }),
         Asked::Nothing => {
-            show(rt, to, err, name, seen.depth)?;
+            show(rt, input, to, err, name, seen.depth)?;
             Ok(Seen {
                 depth: seen.depth,
                 file: true,
@@ -126,6 +128,7 @@ fn argument<R: Files + Input, W: Write, E: Write>(
 fn main(rt: HostRuntime) -> Result<()> {
     let mut to = rt.stdout();
     let mut err = rt.stderr();
+    let mut input = Some(rt.reader());
     let mut seen = Seen {
         depth: 8,
         file: false,
@@ -135,10 +138,10 @@ fn main(rt: HostRuntime) -> Result<()> {
         let Some(k) = fill(&rt, i, &mut name) else {
             break;
         };
-        seen = argument(&rt, &mut to, &mut err, &name[..k], seen)?;
+        seen = argument(&rt, &mut input, &mut to, &mut err, &name[..k], seen)?;
     }
     if seen.file {
         return Ok(());
     }
-    show(&rt, &mut to, &mut err, b"-", seen.depth)
+    show(&rt, &mut input, &mut to, &mut err, b"-", seen.depth)
 }

@@ -6,6 +6,9 @@ use std::io::{Error, ErrorKind, Read, Result};
 use std::rt::Files;
 use std::{fs, str};
 
+// The system's number for a descriptor that is not open.
+const CLOSED: i32 = 9;
+
 // How reading ended, and where it failed the system's reason.
 #[derive(Clone, Copy)]
 pub enum End {
@@ -85,13 +88,33 @@ fn read_all<R: Read>(from: &mut R, buf: &mut [u8]) -> Got
     }
 }
 
+// Reads standard input, once: it counts as closed behind that.
+fn read_input<I: Read + Drop>(input: &mut Option<I>, buf: &mut [u8]) -> Got
+    ensures { IsPrefixLen result.n buf.new }
+{
+    match input.take() {
+        Some(from) => {
+            let mut from = from;
+            read_all(&mut from, buf)
+        }
+        None => Got {
+            n: 0,
+            end: End::NotRead(Error::from_raw_os_error(CLOSED)),
+        },
+    }
+}
+
 // Reads the file of a name, which is closed before its end is told.
-pub fn fetch<R: Files + Input>(rt: &R, name: &[u8], buf: &mut [u8]) -> Got
+pub fn fetch<R: Files, I: Read + Drop>(
+    rt: &R,
+    input: &mut Option<I>,
+    name: &[u8],
+    buf: &mut [u8],
+) -> Got
     ensures { IsPrefixLen result.n buf.new }
 {
     if is_dash(name) {
-        let mut from = rt.reader();
-        return read_all(&mut from, buf);
+        return read_input(input, buf);
     }
     match open(rt, name) {
         Ok(file) => {
