@@ -6,7 +6,7 @@ use super::seen::Seen;
 use clvm_allocator::answers::CAnswer;
 use clvm_allocator::{c_concat, c_creates, c_load, c_node, c_reads, c_restores, c_save, c_state};
 use compare::lists;
-use compare::lists::{Bytes, File, Slots, low};
+use compare::lists::{Slots, low};
 use script::desk::Desk;
 use script::{call, desk};
 use words::{CheckpointWords, CountsWords, RecordWords};
@@ -362,12 +362,12 @@ fn writes(
     kind: u64,
     desk: &Desk,
     a: &mut RecordWords,
-    bytes: &mut Bytes,
+    bytes: &mut [u8],
     starts: &mut Slots,
     ends: &mut Slots,
     firsts: &mut Slots,
     rests: &mut Slots,
-    file: &File,
+    file: &[u8],
 ) -> Seen {
     match kind {
         call::MAYBE_RESTORE_WITH_NODE => lent_maybe(desk, a, bytes, starts, ends, firsts, rests),
@@ -381,12 +381,12 @@ fn writes(
 pub fn made(
     desk: &Desk,
     a: &mut RecordWords,
-    bytes: &mut Bytes,
+    bytes: &mut [u8],
     starts: &mut Slots,
     ends: &mut Slots,
     firsts: &mut Slots,
     rests: &mut Slots,
-    file: &mut File,
+    file: &mut [u8],
 ) -> Seen {
     let kind = desk[desk::KIND];
     match kind {

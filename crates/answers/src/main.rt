@@ -5,7 +5,7 @@
 mod calls;
 mod seen;
 
-use compare::lists::{Bytes, File, Slots};
+use compare::lists::Slots;
 use compare::{lists, show};
 use script::desk::{Desk, Window};
 use script::{asked, desk, lines, table};
@@ -21,16 +21,8 @@ fn no_numbers() -> Desk {
     [0; 1024]
 }
 
-fn no_bytes() -> Bytes {
-    [165; 2097280]
-}
-
 fn no_slots() -> Slots {
     [2779096485; 8320]
-}
-
-fn no_file() -> File {
-    [165; 3145920]
 }
 
 // The next line. The steps stand in a row, and each looks for itself whether the line is one of its own: a choice between them here would
@@ -41,12 +33,12 @@ fn turn<R: Files, W: Write>(
     source: &mut Option<R::File>,
     window: &mut Window,
     desk: &mut Desk,
-    bytes: &mut Bytes,
+    bytes: &mut [u8],
     starts: &mut Slots,
     ends: &mut Slots,
     firsts: &mut Slots,
     rests: &mut Slots,
-    file: &mut File,
+    file: &mut [u8],
 ) -> io::Result<()> {
     lines::next(rt, source, window, desk)?;
     asked::understand(window, desk);
@@ -63,12 +55,12 @@ fn main(rt: HostRuntime) -> io::Result<()> {
     let mut source = None;
     let mut window = no_line();
     let mut desk = no_numbers();
-    let mut bytes = no_bytes();
+    let mut bytes = vec![in rt.alloc(); lists::FILLING; lists::ALL_BYTES]?;
     let mut starts = no_slots();
     let mut ends = no_slots();
     let mut firsts = no_slots();
     let mut rests = no_slots();
-    let mut file = no_file();
+    let mut file = vec![in rt.alloc(); lists::FILLING; lists::ALL_FILE]?;
     let mut turns: u64 = 1000000000;
     desk[desk::FILE] = table::DOCUMENT;
     while 0 < turns {

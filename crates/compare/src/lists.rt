@@ -2,18 +2,22 @@
 use script::desk::{Desk, Window};
 use script::{call, desk, parse, table};
 
-pub type Bytes = [u8; 2097280];
-
 pub type Slots = [u32; 8320];
-
-// The file has a third part: the bytes that a call is handed.
-pub type File = [u8; 3145920];
 
 const BYTES: usize = 1048640;
 
 const SLOTS: usize = 4160;
 
 pub const HANDED: usize = 2097280;
+
+// How long the byte store and the file are. The file has a third part: the bytes that a call is handed. The two are slices: they lie on
+// the heap, since the stack would not hold them beside the deepest file that is loaded.
+pub const ALL_BYTES: usize = 2097280;
+
+pub const ALL_FILE: usize = 3145920;
+
+// What a byte list holds when a case begins.
+pub const FILLING: u8 = 165;
 
 // What a slot holds when a case begins.
 const FILLER: u32 = 2779096485;
@@ -242,12 +246,12 @@ fn hand(window: &Window, desk: &Desk, s: &mut [u8]) {
 pub fn tend(
     window: &Window,
     desk: &mut Desk,
-    b: &mut Bytes,
+    b: &mut [u8],
     starts: &mut Slots,
     ends: &mut Slots,
     firsts: &mut Slots,
     rests: &mut Slots,
-    file: &mut File,
+    file: &mut [u8],
 ) {
     bytes(window, desk, desk::BYTES, b);
     slots(desk, desk::STARTS, starts);
