@@ -83,7 +83,8 @@ fn put(
     at: usize,
 ) -> usize
     requires sound { lists_sound a (lists_in bytes.now starts.now ends.now firsts.now rests.now) ≡ true }
-    requires fits { (at ≤ length file.old) × Accepted (form_of a (lists_in bytes.now starts.now ends.now firsts.now rests.now) levels (length file.old - at) n) }
+    requires fits { (at ≤ length file.old)
+        × Accepted (form_of a (lists_in bytes.now starts.now ends.now firsts.now rests.now) levels (length file.old - at) n) }
     ensures written { file.new
         ≡ over file.old at
         (formed (form_of a (lists_in bytes.now starts.now ends.now firsts.now rests.now) levels (length file.old - at) n)) }

@@ -10,7 +10,8 @@ ghost use Rattle.rules.specs.Node.{nil};
 ghost use Rattle.rules.specs.Said.{says, need};
 ghost use Rattle.rules.specs.State.{limits_sound, well_formed};
 ghost use Rattle.rules.specs.Lent.{lists_in};
-ghost use Rattle.rules.specs.Record.{atom_count, allocated_atom_count, pair_count, allocated_pair_count, heap_size, allocated_heap_size, checkpoint as checkpoint_of};
+ghost use Rattle.rules.specs.Record.{atom_count, allocated_atom_count, pair_count, allocated_pair_count};
+ghost use Rattle.rules.specs.Record.{heap_size, allocated_heap_size, checkpoint as checkpoint_of};
 ghost use Rattle.rules.specs.Record.{transparent_checkpoint, new_limited};
 ghost use Rattle.rules.specs.Paper.{number_paper, taken_paper, taken_counts_paper, changed};
 

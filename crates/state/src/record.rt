@@ -1,6 +1,7 @@
 // How a record changes: each call changes it by one of these, and one function alone makes a record from another.
 ghost use Rattle.std.specs.Prelude.{◌≡◌, ◌+◌, ◌-◌, ◌≤◌, ◌<◌};
-ghost use Rattle.rules.specs.State.{atoms, pairs, heap, moved as moved_to, used_atom, used_pair, ghost_atom, with_ghosts, cut as cut_to, cut_plain, less_ghosts};
+ghost use Rattle.rules.specs.State.{atoms, pairs, heap, moved as moved_to, used_atom, used_pair, ghost_atom};
+ghost use Rattle.rules.specs.State.{with_ghosts, cut as cut_to, cut_plain, less_ghosts};
 ghost use Rattle.rules.specs.Record.{checkpoint_of, fresh as fresh_of};
 ghost use Rattle.rules.specs.Restores.{savings as savings_of};
 ghost use Rattle.rules.proofs.Limits.{Limits, Below};

@@ -15,17 +15,20 @@ use Rattle.request.proofs.concat.Goals as goal
 
 pub returns-then-p-lt-SIZE : goal.returns-then-p-lt-SIZE
 returns-then-p-lt-SIZE c =
-    let payload-here : take (c.args.end - 4) (drop 4 c.args.rest.now) ≡ slice 4 c.args.end c.args.rest.now = part_slice 4 c.args.end c.args.rest.now c.requires.0 in
+    let payload-here : take (c.args.end - 4) (drop 4 c.args.rest.now) ≡ slice 4 c.args.end c.args.rest.now =
+    part_slice 4 c.args.end c.args.rest.now c.requires.0 in
     record { meaning = subst (λ (x : List ℕ). bad ≡ concat_of x) payload-here (simp (lt-leb _ _ c.if-p-lt-SIZE.true)); within = tt }
 
 pub returns-then-p-ne0 : goal.returns-then-p-ne0
 returns-then-p-ne0 c =
-    let payload-here : take (c.args.end - 4) (drop 4 c.args.rest.now) ≡ slice 4 c.args.end c.args.rest.now = part_slice 4 c.args.end c.args.rest.now c.requires.0 in
+    let payload-here : take (c.args.end - 4) (drop 4 c.args.rest.now) ≡ slice 4 c.args.end c.args.rest.now =
+    part_slice 4 c.args.end c.args.rest.now c.requires.0 in
     record { meaning = subst (λ (x : List ℕ). bad ≡ concat_of x) payload-here (simp (le-leb _ _ c.if-p-lt-SIZE.false, ne_eqb _ _ c.if-p-ne0.true)); within = tt }
 
 pub returns : goal.returns
 returns c =
-    let payload-here : take (c.args.end - 4) (drop 4 c.args.rest.now) ≡ slice 4 c.args.end c.args.rest.now = part_slice 4 c.args.end c.args.rest.now c.requires.0 in
+    let payload-here : take (c.args.end - 4) (drop 4 c.args.rest.now) ≡ slice 4 c.args.end c.args.rest.now =
+    part_slice 4 c.args.end c.args.rest.now c.requires.0 in
     let s = c.args in
     let nodes = ap (λ (x : List ℕ). u32s (drop 8 x)) payload-here ∙ ap u32s (drop-drop 8 4 (take s.end s.rest.now)) in
     let long = length-slice 4 s.end s.rest.now c.requires.1 in

@@ -14,21 +14,24 @@ use Rattle.concat.proofs.copies.copy_term.Goals as goal
 
 pub copy_within-requires : goal.copy_within-requires
 copy_within-requires c =
-    let in_range : let a = c.args in (c.in-Range.start ≤ c.in-Range.end) × (c.in-Range.end ≤ a.at) × (a.at + (c.in-Range.end - c.in-Range.start) ≤ length a.bytes.now) = let a = c.args in
+    let in_range : let a = c.args in (c.in-Range.start ≤ c.in-Range.end) × (c.in-Range.end ≤ a.at) × (a.at + (c.in-Range.end - c.in-Range.start) ≤ length a.bytes.now) =
+    let a = c.args in
     range-room a.a (atom_slots a.starts.now a.ends.now) a.n a.bytes.now a.at c.in-Range.start c.in-Range.end
     (sym c.atom_of-found.ensures ∙ ap atom_paper c.in-Range.is) c.requires.atoms_within.1 c.requires.fits in
     in_range
 
 pub overflow_sub-result : goal.overflow_sub-result
 overflow_sub-result c =
-    let in_range : let a = c.args in (c.in-Range.start ≤ c.in-Range.end) × (c.in-Range.end ≤ a.at) × (a.at + (c.in-Range.end - c.in-Range.start) ≤ length a.bytes.now) = let a = c.args in
+    let in_range : let a = c.args in (c.in-Range.start ≤ c.in-Range.end) × (c.in-Range.end ≤ a.at) × (a.at + (c.in-Range.end - c.in-Range.start) ≤ length a.bytes.now) =
+    let a = c.args in
     range-room a.a (atom_slots a.starts.now a.ends.now) a.n a.bytes.now a.at c.in-Range.start c.in-Range.end
     (sym c.atom_of-found.ensures ∙ ap atom_paper c.in-Range.is) c.requires.atoms_within.1 c.requires.fits in
     in_range.0
 
 pub overflow_add-result : goal.overflow_add-result
 overflow_add-result c =
-    let in_range : let a = c.args in (c.in-Range.start ≤ c.in-Range.end) × (c.in-Range.end ≤ a.at) × (a.at + (c.in-Range.end - c.in-Range.start) ≤ length a.bytes.now) = let a = c.args in
+    let in_range : let a = c.args in (c.in-Range.start ≤ c.in-Range.end) × (c.in-Range.end ≤ a.at) × (a.at + (c.in-Range.end - c.in-Range.start) ≤ length a.bytes.now) =
+    let a = c.args in
     range-room a.a (atom_slots a.starts.now a.ends.now) a.n a.bytes.now a.at c.in-Range.start c.in-Range.end
     (sym c.atom_of-found.ensures ∙ ap atom_paper c.in-Range.is) c.requires.atoms_within.1 c.requires.fits in
     omega (arith, in_range)
@@ -41,7 +44,8 @@ copy_small-requires c =
 
 pub returns-in-Range : goal.returns-in-Range
 returns-in-Range c =
-    let in_range : let a = c.args in (c.in-Range.start ≤ c.in-Range.end) × (c.in-Range.end ≤ a.at) × (a.at + (c.in-Range.end - c.in-Range.start) ≤ length a.bytes.now) = let a = c.args in
+    let in_range : let a = c.args in (c.in-Range.start ≤ c.in-Range.end) × (c.in-Range.end ≤ a.at) × (a.at + (c.in-Range.end - c.in-Range.start) ≤ length a.bytes.now) =
+    let a = c.args in
     range-room a.a (atom_slots a.starts.now a.ends.now) a.n a.bytes.now a.at c.in-Range.start c.in-Range.end
     (sym c.atom_of-found.ensures ∙ ap atom_paper c.in-Range.is) c.requires.atoms_within.1 c.requires.fits in
     let b = c.args.bytes.now in

@@ -12,28 +12,32 @@ use Rattle.creates.proofs.substr.new_substr.Goals as goal
 
 pub overflow_add-from : goal.overflow_add-from
 overflow_add-from c =
-    let ranged : let s = c.args in SubstrPassed s.a (length s.bytes.now) (length s.starts.now) (length s.ends.now) c.wide-i.result c.wide-j.result (range c.in-Range.from c.in-Range.field-1) = let s = c.args in
+    let ranged : let s = c.args in SubstrPassed s.a (length s.bytes.now) (length s.starts.now) (length s.ends.now) c.wide-i.result c.wide-j.result (range c.in-Range.from c.in-Range.field-1) =
+    let s = c.args in
     substr_passed s.a (atom_slots s.starts.now s.ends.now) (length s.bytes.now) s.n c.wide-i.result c.wide-j.result _
     (sym c.substr_tests-found.ensures ∙ ap atom_paper c.in-Range.is) in
     omega (arith, ranged)
 
 pub overflow_add-from-in-Range : goal.overflow_add-from-in-Range
 overflow_add-from-in-Range c =
-    let ranged : let s = c.args in SubstrPassed s.a (length s.bytes.now) (length s.starts.now) (length s.ends.now) c.wide-i.result c.wide-j.result (range c.in-Range.from c.in-Range.field-1) = let s = c.args in
+    let ranged : let s = c.args in SubstrPassed s.a (length s.bytes.now) (length s.starts.now) (length s.ends.now) c.wide-i.result c.wide-j.result (range c.in-Range.from c.in-Range.field-1) =
+    let s = c.args in
     substr_passed s.a (atom_slots s.starts.now s.ends.now) (length s.bytes.now) s.n c.wide-i.result c.wide-j.result _
     (sym c.substr_tests-found.ensures ∙ ap atom_paper c.in-Range.is) in
     omega (arith, ranged)
 
 pub share_range-requires : goal.share_range-requires
 share_range-requires c =
-    let ranged : let s = c.args in SubstrPassed s.a (length s.bytes.now) (length s.starts.now) (length s.ends.now) c.wide-i.result c.wide-j.result (range c.in-Range.from c.in-Range.field-1) = let s = c.args in
+    let ranged : let s = c.args in SubstrPassed s.a (length s.bytes.now) (length s.starts.now) (length s.ends.now) c.wide-i.result c.wide-j.result (range c.in-Range.from c.in-Range.field-1) =
+    let s = c.args in
     substr_passed s.a (atom_slots s.starts.now s.ends.now) (length s.bytes.now) s.n c.wide-i.result c.wide-j.result _
     (sym c.substr_tests-found.ensures ∙ ap atom_paper c.in-Range.is) in
     omega (arith, ranged)
 
 pub part_of_small-requires : goal.part_of_small-requires
 part_of_small-requires c =
-    let valued : let s = c.args in SubstrPassed s.a (length s.bytes.now) (length s.starts.now) (length s.ends.now) c.wide-i.result c.wide-j.result (value c.in-Value.v) = let s = c.args in
+    let valued : let s = c.args in SubstrPassed s.a (length s.bytes.now) (length s.starts.now) (length s.ends.now) c.wide-i.result c.wide-j.result (value c.in-Value.v) =
+    let s = c.args in
     substr_passed s.a (atom_slots s.starts.now s.ends.now) (length s.bytes.now) s.n c.wide-i.result c.wide-j.result _
     (sym c.substr_tests-found.ensures ∙ ap atom_paper c.in-Value.is) in
     record { counts = omega (arith, valued); part = (valued.lies, valued.part.order, valued.part.high) }

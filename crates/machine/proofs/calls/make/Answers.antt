@@ -15,43 +15,51 @@ use Rattle.machine.proofs.calls.make.Goals as goal
 
 pub slice_bounds-new_atom-count : goal.slice_bounds-new_atom-count
 slice_bounds-new_atom-count c =
-    let atom-range : (c.in-Atom.from ≤ c.in-Atom.to) × (c.in-Atom.to ≤ length c.args.input.now) = subst (MakingWithin (length c.args.input.now)) c.in-Atom.is c.requires in
+    let atom-range : (c.in-Atom.from ≤ c.in-Atom.to) × (c.in-Atom.to ≤ length c.args.input.now) =
+    subst (MakingWithin (length c.args.input.now)) c.in-Atom.is c.requires in
     omega (arith, atom-range)
 
 pub slice_bounds-new_atom-start : goal.slice_bounds-new_atom-start
 slice_bounds-new_atom-start c =
-    let atom-range : (c.in-Atom.from ≤ c.in-Atom.to) × (c.in-Atom.to ≤ length c.args.input.now) = subst (MakingWithin (length c.args.input.now)) c.in-Atom.is c.requires in
+    let atom-range : (c.in-Atom.from ≤ c.in-Atom.to) × (c.in-Atom.to ≤ length c.args.input.now) =
+    subst (MakingWithin (length c.args.input.now)) c.in-Atom.is c.requires in
     omega (arith, atom-range)
 
 pub slice_bounds-new_atom-end : goal.slice_bounds-new_atom-end
 slice_bounds-new_atom-end c =
-    let atom-range : (c.in-Atom.from ≤ c.in-Atom.to) × (c.in-Atom.to ≤ length c.args.input.now) = subst (MakingWithin (length c.args.input.now)) c.in-Atom.is c.requires in
+    let atom-range : (c.in-Atom.from ≤ c.in-Atom.to) × (c.in-Atom.to ≤ length c.args.input.now) =
+    subst (MakingWithin (length c.args.input.now)) c.in-Atom.is c.requires in
     omega (arith, atom-range)
 
 pub slice_bounds-new_concat-count : goal.slice_bounds-new_concat-count
 slice_bounds-new_concat-count c =
-    let concat-range : (c.in-Concat.from ≤ c.in-Concat.to) × (c.in-Concat.to ≤ length c.args.input.now) × (c.in-Concat.to ≤ c.in-Concat.from + 65536) = subst (MakingWithin (length c.args.input.now)) c.in-Concat.is c.requires in
+    let concat-range : (c.in-Concat.from ≤ c.in-Concat.to) × (c.in-Concat.to ≤ length c.args.input.now) × (c.in-Concat.to ≤ c.in-Concat.from + 65536) =
+    subst (MakingWithin (length c.args.input.now)) c.in-Concat.is c.requires in
     omega (arith, concat-range)
 
 pub slice_bounds-new_concat-start : goal.slice_bounds-new_concat-start
 slice_bounds-new_concat-start c =
-    let concat-range : (c.in-Concat.from ≤ c.in-Concat.to) × (c.in-Concat.to ≤ length c.args.input.now) × (c.in-Concat.to ≤ c.in-Concat.from + 65536) = subst (MakingWithin (length c.args.input.now)) c.in-Concat.is c.requires in
+    let concat-range : (c.in-Concat.from ≤ c.in-Concat.to) × (c.in-Concat.to ≤ length c.args.input.now) × (c.in-Concat.to ≤ c.in-Concat.from + 65536) =
+    subst (MakingWithin (length c.args.input.now)) c.in-Concat.is c.requires in
     omega (arith, concat-range)
 
 pub slice_bounds-new_concat-end : goal.slice_bounds-new_concat-end
 slice_bounds-new_concat-end c =
-    let concat-range : (c.in-Concat.from ≤ c.in-Concat.to) × (c.in-Concat.to ≤ length c.args.input.now) × (c.in-Concat.to ≤ c.in-Concat.from + 65536) = subst (MakingWithin (length c.args.input.now)) c.in-Concat.is c.requires in
+    let concat-range : (c.in-Concat.from ≤ c.in-Concat.to) × (c.in-Concat.to ≤ length c.args.input.now) × (c.in-Concat.to ≤ c.in-Concat.from + 65536) =
+    subst (MakingWithin (length c.args.input.now)) c.in-Concat.is c.requires in
     omega (arith, concat-range)
 
 pub new_concat-requires : goal.new_concat-requires
 new_concat-requires c =
-    let concat-range : (c.in-Concat.from ≤ c.in-Concat.to) × (c.in-Concat.to ≤ length c.args.input.now) × (c.in-Concat.to ≤ c.in-Concat.from + 65536) = subst (MakingWithin (length c.args.input.now)) c.in-Concat.is c.requires in
+    let concat-range : (c.in-Concat.from ≤ c.in-Concat.to) × (c.in-Concat.to ≤ length c.args.input.now) × (c.in-Concat.to ≤ c.in-Concat.from + 65536) =
+    subst (MakingWithin (length c.args.input.now)) c.in-Concat.is c.requires in
     simp (length-take, length-drop) (omega (arith, concat-range))
 
 pub returns-in-Atom : goal.returns-in-Atom
 returns-in-Atom c =
     let state = state_in c.args.a (lists c.args.bytes.now (atom_slots c.args.starts.now c.args.ends.now) (pair_slots c.args.firsts.now c.args.rests.now)) in
-    let atom-range : (c.in-Atom.from ≤ c.in-Atom.to) × (c.in-Atom.to ≤ length c.args.input.now) = subst (MakingWithin (length c.args.input.now)) c.in-Atom.is c.requires in
+    let atom-range : (c.in-Atom.from ≤ c.in-Atom.to) × (c.in-Atom.to ≤ length c.args.input.now) =
+    subst (MakingWithin (length c.args.input.now)) c.in-Atom.is c.requires in
     let part = part_slice c.in-Atom.from c.in-Atom.to c.args.input.now atom-range.0 in
     simp (c.in-Atom.is, c.of_made.ensures)
     (ap (λ o. came_of (answers_node (on_store state o))) (c.new_atom.ensures ∙ ap (λ (x : List ℕ). new_atom c.args.a x (store_of state)) part))
@@ -71,7 +79,8 @@ returns-in-Substr c =
 pub returns-in-Concat : goal.returns-in-Concat
 returns-in-Concat c =
     let state = state_in c.args.a (lists c.args.bytes.now (atom_slots c.args.starts.now c.args.ends.now) (pair_slots c.args.firsts.now c.args.rests.now)) in
-    let concat-range : (c.in-Concat.from ≤ c.in-Concat.to) × (c.in-Concat.to ≤ length c.args.input.now) × (c.in-Concat.to ≤ c.in-Concat.from + 65536) = subst (MakingWithin (length c.args.input.now)) c.in-Concat.is c.requires in
+    let concat-range : (c.in-Concat.from ≤ c.in-Concat.to) × (c.in-Concat.to ≤ length c.args.input.now) × (c.in-Concat.to ≤ c.in-Concat.from + 65536) =
+    subst (MakingWithin (length c.args.input.now)) c.in-Concat.is c.requires in
     let size = c.in-Concat.size in
     let part = part_slice c.in-Concat.from c.in-Concat.to c.args.input.now concat-range.0 in
     simp (c.in-Concat.is, c.of_made-in-Concat.ensures)

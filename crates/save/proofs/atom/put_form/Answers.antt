@@ -20,22 +20,26 @@ put_prefix-from-requires c =
 
 pub slice_bounds-copy-count-2 : goal.slice_bounds-copy-count-2
 slice_bounds-copy-count-2 c =
-    let room : c.put_prefix-from.result + length c.args.v.now ≤ length c.put_prefix-from.new.file = bytes-room c.args.file.now c.args.v.now c.args.at (sym c.alone.ensures ∙ c.if-alone.false) c.requires.1 c.put_prefix-from.new.file c.put_prefix-from.result c.put_prefix-from.ensures.written c.put_prefix-from.ensures.end in
+    let room : c.put_prefix-from.result + length c.args.v.now ≤ length c.put_prefix-from.new.file =
+    bytes-room c.args.file.now c.args.v.now c.args.at (sym c.alone.ensures ∙ c.if-alone.false) c.requires.1 c.put_prefix-from.new.file c.put_prefix-from.result c.put_prefix-from.ensures.written c.put_prefix-from.ensures.end in
     omega (arith, room)
 
 pub slice_bounds-copy-start-2 : goal.slice_bounds-copy-start-2
 slice_bounds-copy-start-2 c =
-    let room : c.put_prefix-from.result + length c.args.v.now ≤ length c.put_prefix-from.new.file = bytes-room c.args.file.now c.args.v.now c.args.at (sym c.alone.ensures ∙ c.if-alone.false) c.requires.1 c.put_prefix-from.new.file c.put_prefix-from.result c.put_prefix-from.ensures.written c.put_prefix-from.ensures.end in
+    let room : c.put_prefix-from.result + length c.args.v.now ≤ length c.put_prefix-from.new.file =
+    bytes-room c.args.file.now c.args.v.now c.args.at (sym c.alone.ensures ∙ c.if-alone.false) c.requires.1 c.put_prefix-from.new.file c.put_prefix-from.result c.put_prefix-from.ensures.written c.put_prefix-from.ensures.end in
     omega (arith, room)
 
 pub copy-requires-2 : goal.copy-requires-2
 copy-requires-2 c =
-    let room : c.put_prefix-from.result + length c.args.v.now ≤ length c.put_prefix-from.new.file = bytes-room c.args.file.now c.args.v.now c.args.at (sym c.alone.ensures ∙ c.if-alone.false) c.requires.1 c.put_prefix-from.new.file c.put_prefix-from.result c.put_prefix-from.ensures.written c.put_prefix-from.ensures.end in
+    let room : c.put_prefix-from.result + length c.args.v.now ≤ length c.put_prefix-from.new.file =
+    bytes-room c.args.file.now c.args.v.now c.args.at (sym c.alone.ensures ∙ c.if-alone.false) c.requires.1 c.put_prefix-from.new.file c.put_prefix-from.result c.put_prefix-from.ensures.written c.put_prefix-from.ensures.end in
     simp (length-take, length-drop) (omega (arith, room))
 
 pub overflow_add-result-2 : goal.overflow_add-result-2
 overflow_add-result-2 c =
-    let room : c.put_prefix-from.result + length c.args.v.now ≤ length c.put_prefix-from.new.file = bytes-room c.args.file.now c.args.v.now c.args.at (sym c.alone.ensures ∙ c.if-alone.false) c.requires.1 c.put_prefix-from.new.file c.put_prefix-from.result c.put_prefix-from.ensures.written c.put_prefix-from.ensures.end in
+    let room : c.put_prefix-from.result + length c.args.v.now ≤ length c.put_prefix-from.new.file =
+    bytes-room c.args.file.now c.args.v.now c.args.at (sym c.alone.ensures ∙ c.if-alone.false) c.requires.1 c.put_prefix-from.new.file c.put_prefix-from.result c.put_prefix-from.ensures.written c.put_prefix-from.ensures.end in
     omega (arith, room)
 
 pub returns : goal.returns
