@@ -345,7 +345,7 @@ clvm_restored clvm_maybe_restore_with_node(
  *
  * A file holds one tree: ff, first, rest for a pair; 80 for the empty atom; a byte below 80 for itself; else a prefix with the
  * length, one to five bytes that start at 80, c0, e0, f0 or f8, and the bytes. It has at most 4,096 levels, the root being
- * level 1, and either call goes down level by level: on the deepest file it takes just under 2 MB of stack.
+ * level 1, and either call goes down level by level: on the deepest file it takes less than 2 MB of stack.
  */
 
 /* Reads a whole file into the slots, as clvm_new_atom and clvm_new_pair would: first, rest, then the pair. A prefix need not be

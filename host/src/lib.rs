@@ -29,7 +29,7 @@
 //! [`Allocator::load`] reads a tree from the serialised form of the public CLVM documentation; [`Allocator::save`] and
 //! [`Allocator::save_to_vec`] write it, with the shortest prefixes. A file that is not loaded is refused by a [`LoadErr`], which
 //! says where the fault lies. A file has at most 4,096 levels, and these calls go down level by level: the deepest one takes
-//! just under 2 MB of stack, so that a thread of the standard size (2 MiB) can load it.
+//! less than 2 MB of stack, so that a thread of the standard size (2 MiB) can load it.
 //!
 //! # Example
 //!

@@ -1,5 +1,5 @@
-// Makes the calls of data/*.txt through the C library's functions and compares every answer, every record and all that is lent with what the
-// file expects; FORMAT.md describes the files. It stops at the first difference.
+// Makes the calls of data/*.txt by the functions that the C library's exports call, and compares every answer, every record and all that is
+// lent with what the file expects; FORMAT.md describes the files. It stops at the first difference.
 #![tactic(auto)]
 
 mod calls;

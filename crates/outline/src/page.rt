@@ -1,5 +1,6 @@
 // Text on its way to standard output. It waits in a block that is written out when it is full, for a write a byte would be slow.
-// Each function takes the writer and how many bytes of the block wait, and answers how many then do, or why a write failed.
+// Each function takes the writer and how many bytes of the block wait, and answers how many then do, or why a write failed:
+// then a part may have been written, and of what the block holds nothing is said.
 ghost use Rattle.std.specs.Prelude.{◌≤◌, ◌<◌, length, IfOk};
 
 use std::io::{Result, Write};

@@ -121,7 +121,8 @@ pub fn run(
     finish(m, at, out, w)
 }
 
-// Writes the whole text of an input, a buffer at a time; answers how many bytes that were.
+// Writes the whole text of an input, a buffer at a time; answers how many bytes that were, or why a write failed: then a part of the text may
+// have been written, and of what is lent nothing is said.
 pub fn print<W: Write>(
     to: &mut W,
     bytes: &mut [u8],
