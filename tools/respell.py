@@ -73,6 +73,9 @@ def spelled(name, definitions):
 
 
 def main():
+    if not any(CAMEL.match(name) for name in declared(sorted(glob.glob("crates/*/specs/**/*.antt", recursive=True)))):
+        print("no name has the older spelling: nothing to do")
+        return
     free()
     specs = sorted(glob.glob("crates/*/specs/**/*.antt", recursive=True))
     proofs = sorted(glob.glob("crates/*/proofs/**/*.antt", recursive=True))

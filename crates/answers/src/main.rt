@@ -8,7 +8,7 @@ mod seen;
 use compare::lists::Slots;
 use compare::{lists, show};
 use script::desk::{Desk, Window};
-use script::{asked, desk, lines, table};
+use script::{asked, desk, lines, parse, table};
 use std::io;
 use std::io::Write;
 use std::rt::Files;
@@ -55,12 +55,12 @@ fn main(rt: HostRuntime) -> io::Result<()> {
     let mut source = None;
     let mut window = no_line();
     let mut desk = no_numbers();
-    let mut bytes = vec![in rt.alloc(); lists::FILLING; lists::ALL_BYTES]?;
+    let mut bytes = vec![in rt.alloc(); parse::FILLER; lists::ALL_BYTES]?;
     let mut starts = no_slots();
     let mut ends = no_slots();
     let mut firsts = no_slots();
     let mut rests = no_slots();
-    let mut file = vec![in rt.alloc(); lists::FILLING; lists::ALL_FILE]?;
+    let mut file = vec![in rt.alloc(); parse::FILLER; lists::ALL_FILE]?;
     let mut turns: u64 = 1000000000;
     desk[desk::FILE] = table::DOCUMENT;
     while 0 < turns {

@@ -8,16 +8,13 @@ const BYTES: usize = 1048640;
 
 const SLOTS: usize = 4160;
 
-pub const HANDED: usize = 2097280;
+// How long the byte store and the file are. The file has a third part, the bytes that a call is handed. The two are slices: they lie on the
+// heap, since the stack would not hold them beside the deepest file that is loaded.
+pub const ALL_BYTES: usize = 2 * BYTES;
 
-// How long the byte store and the file are. The file has a third part: the bytes that a call is handed. The two are slices: they lie on
-// the heap, since the stack would not hold them beside the deepest file that is loaded.
-pub const ALL_BYTES: usize = 2097280;
+pub const ALL_FILE: usize = 3 * BYTES;
 
-pub const ALL_FILE: usize = 3145920;
-
-// What a byte list holds when a case begins.
-pub const FILLING: u8 = 165;
+pub const HANDED: usize = 2 * BYTES;
 
 // What a slot holds when a case begins.
 const FILLER: u32 = 2779096485;

@@ -1,7 +1,8 @@
 // Text on its way to standard output. It waits in a block that is written out when it is full, for a write a byte would be slow.
 // Each function takes the writer and how many bytes of the block wait, and answers how many then do, or why a write failed:
 // then a part may have been written, and of what the block holds nothing is said.
-ghost use Rattle.std.specs.Prelude.{◌≤◌, ◌<◌, length, IfOk};
+ghost use Rattle.std.specs.Prelude.{◌≤◌, ◌<◌, length, take, IfOk, OnOk};
+ghost use Rattle.std.specs.Io.KnownBytes.{Appends};
 
 use std::io::{Result, Write};
 
@@ -91,6 +92,7 @@ pub fn put_hex<W: Write>(to: &mut W, out: &mut Block, w: usize, s: &[u8]) -> Res
 // Writes the first w bytes.
 fn write<W: Write>(to: &mut W, out: &[u8], w: usize) -> Result<()>
     requires { w ≤ length out.now }
+    ensures { OnOk result (Appends (W.contents to.old) (W.contents to.new) (take w out.now)) }
 {
     to.write_all(&out[..w])
 }
@@ -98,6 +100,7 @@ fn write<W: Write>(to: &mut W, out: &[u8], w: usize) -> Result<()>
 // Writes out what waits: then nothing does.
 pub fn flush<W: Write>(to: &mut W, out: &Block, w: usize) -> Result<()>
     requires { w ≤ 65536 }
+    ensures { OnOk result (Appends (W.contents to.old) (W.contents to.new) (take w out.now)) }
 {
     write(to, out, w)
 }

@@ -8,15 +8,14 @@ mod lines;
 mod program;
 mod source;
 
-ghost use Rattle.std.specs.Prelude.{◌≡◌, ◌≤◌, length, IfSome};
+ghost use Rattle.std.specs.Prelude.{◌≡◌, ◌≤◌, length};
 
 use depth::Asked;
 use outline::page;
 use outline::page::Block;
 use source::End;
-use std::env::FillError;
 use std::io::{Error, Read, Result, Write};
-use std::rt::{Env, Files};
+use std::rt::Files;
 
 // The longest file.
 const LONGEST: usize = 131072;
@@ -87,18 +86,6 @@ struct Seen {
     file: bool,
 }
 
-// Puts argument i at the start of the buffer, and answers its length, or nothing past the last argument. One that is longer than the buffer
-// counts as empty.
-fn fill<R: Env>(rt: &R, i: usize, name: &mut [u8]) -> Option<usize>
-    ensures { IfSome result (λ k. k ≤ length name.new) }
-{
-    match rt.arg(i, name) {
-        Ok(k) => Some(k),
-        Err(FillError::TooLong) => Some(0),
-        Err(FillError::NotPresent) => None,
-    }
-}
-
 // One argument: a depth, or a file to show.
 fn argument<R: Files, I: Read + Drop, W: Write, E: Write>(
     rt: &R,
@@ -135,7 +122,7 @@ fn main(rt: HostRuntime) -> Result<()> {
     };
     for i in 1..usize::MAX {
         let mut name = io::buffer();
-        let Some(k) = fill(&rt, i, &mut name) else {
+        let Some(k) = given::argument(&rt, i, &mut name) else {
             break;
         };
         seen = argument(&rt, &mut input, &mut to, &mut err, &name[..k], seen)?;

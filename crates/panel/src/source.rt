@@ -2,9 +2,8 @@
 ghost use Rattle.std.specs.Prelude.{◌≤◌, length};
 ghost use Rattle.io.specs.Counts.{IsPrefixLen};
 
-use std::io::{Error, ErrorKind, Read, Result};
+use std::io::{Error, Read};
 use std::rt::Files;
-use std::{fs, str};
 
 // The system's number for a descriptor that is not open.
 const CLOSED: i32 = 9;
@@ -37,14 +36,6 @@ fn is_dash(name: &[u8]) -> bool {
         return false;
     }
     name[0] == b'-'
-}
-
-// The file of a name to read from. A name that is not UTF-8 opens none, for std's names are text.
-fn open<R: Files>(rt: &R, name: &[u8]) -> Result<R::File> {
-    match str::from_utf8(name) {
-        Ok(text) => fs::open(rt, text),
-        Err(_) => Err(Error::from(ErrorKind::InvalidFilename)),
-    }
 }
 
 fn read_part<R: Read>(from: &mut R, buf: &mut [u8]) -> Part
@@ -93,10 +84,7 @@ fn read_input<I: Read + Drop>(input: &mut Option<I>, buf: &mut [u8]) -> Got
     ensures { IsPrefixLen result.n buf.new }
 {
     match input.take() {
-        Some(from) => {
-            let mut from = from;
-            read_all(&mut from, buf)
-        }
+        Some(mut from) => read_all(&mut from, buf),
         None => Got {
             n: 0,
             end: End::NotRead(Error::from_raw_os_error(CLOSED)),
@@ -116,11 +104,8 @@ pub fn fetch<R: Files, I: Read + Drop>(
     if is_dash(name) {
         return read_input(input, buf);
     }
-    match open(rt, name) {
-        Ok(file) => {
-            let mut from = file;
-            read_all(&mut from, buf)
-        }
+    match given::open(rt, name) {
+        Ok(mut from) => read_all(&mut from, buf),
         Err(e) => Got {
             n: 0,
             end: End::NotOpened(e),

@@ -25,7 +25,7 @@ const TOP: u64 = 1844674407370955161;
 const LAST: u64 = 5;
 
 // What a byte list holds when a case begins.
-const FILLER: u8 = 165;
+pub const FILLER: u8 = 165;
 
 // The number of a hexadecimal digit; what is none is 16.
 fn digit(b: u8) -> u8
