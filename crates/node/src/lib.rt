@@ -1,22 +1,18 @@
-// The bits of a node, small atoms, the big-endian bytes of a number, and the numbers of the codes.
-#![tactic(auto)]
-
-pub mod code;
+// The bits of a node, small atoms, and the big-endian bytes of a number.
+#![tactic(auto, unfolding(rules::specs::Reads::object_type_of))]
 
 ghost use Rattle.std.specs.Prelude.{◌≡◌, ◌∷◌, ◌++◌, ◌≤◌, ◌<◌, length, drop};
 ghost use Rattle.rules.specs.Node.{view as viewed, node_of};
 ghost use Rattle.rules.specs.Small.{big as big_of, be, fits, len_for};
 ghost use Rattle.rules.specs.Reads.{object_type, node_index, is_atom, is_pair};
-ghost use Rattle.rules.specs.Paper.{view_paper, object_type_paper, number_paper, truth_paper, fits_paper};
+ghost use Rattle.rules.specs.Paper.{said_in, said_by, view_paper, kind_paper, option_paper};
 
-use rules::{Code, Fits, Number, ObjectType, Truth, View};
+use rules::{Code, NIL, ObjectType, Refusal, View};
 
 // How many indices, or small values, a kind has: an index takes 26 bits.
 const INDICES: u32 = 67108864;
 // The largest value of a small atom.
 pub const LARGEST_SMALL: u32 = 67108863;
-// The small atom 0: it stands beside a code that names no node of its own.
-pub const NIL: u32 = 134217728;
 
 // A number of 32 bits as an index.
 pub fn wide(x: u32) -> usize
@@ -74,56 +70,40 @@ pub fn new(kind: u32, index: u32) -> u32
 }
 
 // The kind of a node. Above 2 there is none: such a node is valid in no state.
-pub fn object_type(n: u32) -> ObjectType
-    ensures { object_type_paper result ≡ object_type n }
+pub fn object_type(n: u32) -> Result<ObjectType, Refusal>
+    ensures { said_by kind_paper result ≡ object_type n }
 {
-    let view = view(n);
-    match view {
-        View::Pair(_) => ObjectType::Pair,
-        View::Bytes(_) => ObjectType::Bytes,
-        View::Small(_) => ObjectType::SmallAtom,
-        View::Bad => ObjectType::Refused(Code::NotValid, NIL),
+    match view(n) {
+        View::Pair(_) => Ok(ObjectType::Pair),
+        View::Bytes(_) => Ok(ObjectType::Bytes),
+        View::Small(_) => Ok(ObjectType::SmallAtom),
+        View::Bad => Err(Refusal {
+            code: Code::NotValid,
+            node: NIL,
+        }),
     }
 }
 
 // The low 26 bits of a node that has a kind.
-pub fn index(n: u32) -> Number
-    ensures { number_paper result ≡ node_index n }
+pub fn index(n: u32) -> Result<usize, Refusal>
+    ensures { said_in result ≡ node_index n }
 {
-    let at = (n % INDICES) as usize;
-    let kind = object_type(n);
-    match kind {
-        ObjectType::Pair => Number::Is(at),
-        ObjectType::Bytes => Number::Is(at),
-        ObjectType::SmallAtom => Number::Is(at),
-        ObjectType::Refused(code, node) => Number::Refused(code, node),
-    }
+    object_type(n)?;
+    Ok((n % INDICES) as usize)
 }
 
 // Whether a node is an atom, of either kind.
-pub fn is_atom(n: u32) -> Truth
-    ensures { truth_paper result ≡ is_atom n }
+pub fn is_atom(n: u32) -> Result<bool, Refusal>
+    ensures { said_in result ≡ is_atom n }
 {
-    let kind = object_type(n);
-    match kind {
-        ObjectType::Pair => Truth::No,
-        ObjectType::Bytes => Truth::Yes,
-        ObjectType::SmallAtom => Truth::Yes,
-        ObjectType::Refused(code, node) => Truth::Refused(code, node),
-    }
+    Ok(object_type(n)? != ObjectType::Pair)
 }
 
 // Whether a node is a pair.
-pub fn is_pair(n: u32) -> Truth
-    ensures { truth_paper result ≡ is_pair n }
+pub fn is_pair(n: u32) -> Result<bool, Refusal>
+    ensures { said_in result ≡ is_pair n }
 {
-    let kind = object_type(n);
-    match kind {
-        ObjectType::Pair => Truth::Yes,
-        ObjectType::Bytes => Truth::No,
-        ObjectType::SmallAtom => Truth::No,
-        ObjectType::Refused(code, node) => Truth::Refused(code, node),
-    }
+    Ok(object_type(n)? == ObjectType::Pair)
 }
 
 // How many bytes the shortest form of a value takes: the top bit of the first byte is a sign, so one byte holds the values below 0x80 only.
@@ -147,36 +127,36 @@ pub fn len_for_value(v: u32) -> usize
 
 // Whether bytes are the shortest form of a number of 26 bits, and that number. A first byte from 0x80 on is a minus sign; a first 00 is
 // allowed only where the next byte would else be one.
-pub fn fits_in_small_atom(v: &[u8]) -> Fits
-    ensures { fits_paper result ≡ fits v.now }
+pub fn fits_in_small_atom(v: &[u8]) -> Option<u32>
+    ensures { option_paper result ≡ fits v.now }
 {
     let n = v.len();
     if n == 0 {
-        return Fits::Value(0);
+        return Some(0);
     }
     if 4 < n {
-        return Fits::Nothing;
+        return None;
     }
     let first = v[0];
     if 0x80 <= first {
-        return Fits::Nothing;
+        return None;
     }
     if first == 0 {
         if n == 1 {
-            return Fits::Nothing;
+            return None;
         }
         if v[1] < 0x80 {
-            return Fits::Nothing;
+            return None;
         }
-        return Fits::Value(big(v));
+        return Some(big(v));
     }
     if n == 4 {
         if 3 < first {
-            return Fits::Nothing;
+            return None;
         }
-        return Fits::Value(big(v));
+        return Some(big(v));
     }
-    Fits::Value(big(v))
+    Some(big(v))
 }
 
 // Writes the low n bytes of v at the front of buf, the last byte first.

@@ -1,29 +1,19 @@
--- What each case of the code's answer enums is in document 01: its number, node and values.
-use Rattle.std.specs.Prelude.{ℕ, Bool, true, false}
+-- What the code's answers are in document 01: the number, node and values of each.
+use Rattle.std.specs.Prelude.{ℕ, Result, Ok, Err, Some, None}
+use Rattle.std.specs.Prelude as Std
 use Rattle.std.proofs.Math.Option.{Option, none, some}
-use Rattle.rules.specs.declared.Counts.{Counts}
-use Rattle.rules.specs.declared.Checkpoint.{Checkpoint}
-use Rattle.rules.specs.declared.Made.{Made}
-use Rattle.rules.specs.declared.Changed.{Changed}
-use Rattle.rules.specs.declared.Restored.{Restored}
+use Rattle.rules.specs.declared.Allocator.{Allocator}
 use Rattle.rules.specs.declared.Loaded.{Loaded}
+use Rattle.rules.specs.declared.Fault.{Fault}
+use Rattle.rules.specs.declared.Refusal.{Refusal}
 use Rattle.rules.specs.declared.Code.{Code}
-use Rattle.rules.specs.declared.Verdict.{Verdict}
 use Rattle.rules.specs.declared.ObjectType.{ObjectType}
 use Rattle.rules.specs.declared.View.{View}
 use Rattle.rules.specs.declared.Arg.{Arg}
 use Rattle.rules.specs.declared.Atom.{Atom}
-use Rattle.rules.specs.declared.Number.{Number}
-use Rattle.rules.specs.declared.Truth.{Truth}
-use Rattle.rules.specs.declared.Fits.{Fits}
-use Rattle.rules.specs.declared.SmallNumber.{SmallNumber}
 use Rattle.rules.specs.declared.NodeVisitor.{NodeVisitor}
 use Rattle.rules.specs.declared.SExp.{SExp}
-use Rattle.rules.specs.declared.Next.{Next}
 use Rattle.rules.specs.declared.NodeStatus.{NodeStatus}
-use Rattle.rules.specs.declared.Taken.{Taken}
-use Rattle.rules.specs.declared.TakenCounts.{TakenCounts}
-use Rattle.rules.specs.declared.Answer.{Answer}
 use Rattle.rules.specs.declared.MaybeRestore.{MaybeRestore}
 use Rattle.rules.specs.Node.{Node, pair_at, bytes_at, small, bad}
 use Rattle.rules.specs.Said.{Said, says, refuses, Done, done, NoLists, no_lists, Out}
@@ -54,10 +44,18 @@ code_number Code.BadEncoding = 17
 code_number Code.TooDeep = 18
 code_number Code.NoSpace = 19
 
--- done, or refused
-abbrev pub verdict_paper : Verdict → Said Done
-verdict_paper Verdict.Done = says done
-verdict_paper (Verdict.Refused code node) = refuses (code_number code) node
+-- an answer: what was accepted, as f shows it, or the code's number and the node
+abbrev pub said_by : {A B : Type 0} → (A → B) → Result A Refusal → Said B
+said_by f (Ok x) = says (f x)
+said_by f (Err r) = refuses (code_number r.code) r.node
+
+-- the same where what was accepted is in document 01 what it is in the code: a number, yes or no, a checkpoint, a node
+abbrev pub said_in : {A : Type 0} → Result A Refusal → Said A
+said_in r = said_by (λ x. x) r
+
+-- a call that answers nothing but whether it was done
+abbrev pub verdict_paper : Result (Unit {0}) Refusal → Said Done
+verdict_paper r = said_by (λ u. done) r
 
 -- the bits of a node
 abbrev pub view_paper : View → Node
@@ -67,104 +65,66 @@ view_paper (View.Small v) = small v
 view_paper View.Bad = bad
 
 -- object_type
-abbrev pub object_type_paper : ObjectType → Said Kind
-object_type_paper ObjectType.Pair = says pair_kind
-object_type_paper ObjectType.Bytes = says bytes_kind
-object_type_paper ObjectType.SmallAtom = says small_kind
-object_type_paper (ObjectType.Refused code node) = refuses (code_number code) node
+abbrev pub kind_paper : ObjectType → Kind
+kind_paper ObjectType.Pair = pair_kind
+kind_paper ObjectType.Bytes = bytes_kind
+kind_paper ObjectType.SmallAtom = small_kind
 
 -- a node argument after 5 and 1
-abbrev pub arg_paper : Arg → Said Reads.Arg
-arg_paper (Arg.Pair i) = says (pair_arg i)
-arg_paper (Arg.Bytes i start end) = says (bytes_arg i start end)
-arg_paper (Arg.Small v) = says (small_arg v)
-arg_paper (Arg.Refused code node) = refuses (code_number code) node
+abbrev pub arg_paper : Arg → Reads.Arg
+arg_paper (Arg.Pair i) = pair_arg i
+arg_paper (Arg.Bytes i start end) = bytes_arg i start end
+arg_paper (Arg.Small v) = small_arg v
 
 -- an atom argument after 5 not valid, 1 unsound slot and 6 a pair
-abbrev pub atom_paper : Atom → Said Reads.Atom
-atom_paper (Atom.Range start end) = says (range start end)
-atom_paper (Atom.Value v) = says (value v)
-atom_paper (Atom.Refused code node) = refuses (code_number code) node
+abbrev pub atom_paper : Atom → Reads.Atom
+atom_paper (Atom.Range start end) = range start end
+atom_paper (Atom.Value v) = value v
 
--- a number: index, the six counts, atom_len
-abbrev pub number_paper : Number → Said ℕ
-number_paper (Number.Is x) = says x
-number_paper (Number.Refused code node) = refuses (code_number code) node
-
--- yes or no: is_atom, is_pair, atom_eq
-abbrev pub truth_paper : Truth → Said Bool
-truth_paper Truth.Yes = says true
-truth_paper Truth.No = says false
-truth_paper (Truth.Refused code node) = refuses (code_number code) node
-
--- fits_in_small_atom
-abbrev pub fits_paper : Fits → Option ℕ
-fits_paper (Fits.Value v) = some v
-fits_paper Fits.Nothing = none
-
--- small_number
-abbrev pub small_number_paper : SmallNumber → Said (Option ℕ)
-small_number_paper (SmallNumber.Value v) = says (some v)
-small_number_paper SmallNumber.Nothing = says none
-small_number_paper (SmallNumber.Refused code node) = refuses (code_number code) node
+-- what may be missing: fits_in_small_atom, small_number
+abbrev pub option_paper : {A : Type 0} → Std.Option A → Option A
+option_paper (Some v) = some v
+option_paper None = none
 
 -- node
-abbrev pub visitor_paper : NodeVisitor → Said Visited
-visitor_paper (NodeVisitor.Buffer start end) = says (buffer start end)
-visitor_paper (NodeVisitor.U32 v) = says (number v)
-visitor_paper (NodeVisitor.Pair first rest) = says (children first rest)
-visitor_paper (NodeVisitor.Refused code node) = refuses (code_number code) node
+abbrev pub visitor_paper : NodeVisitor → Visited
+visitor_paper (NodeVisitor.Buffer start end) = buffer start end
+visitor_paper (NodeVisitor.U32 v) = number v
+visitor_paper (NodeVisitor.Pair first rest) = children first rest
 
 -- sexp
-abbrev pub sexp_paper : SExp → Said Sexp
-sexp_paper SExp.Atom = says atomic
-sexp_paper (SExp.Pair first rest) = says (branch first rest)
-sexp_paper (SExp.Refused code node) = refuses (code_number code) node
+abbrev pub sexp_paper : SExp → Sexp
+sexp_paper SExp.Atom = atomic
+sexp_paper (SExp.Pair first rest) = branch first rest
 
 -- next: an atom has none
-abbrev pub next_paper : Next → Said Sexp
-next_paper (Next.Pair first rest) = says (branch first rest)
-next_paper Next.Nothing = says atomic
-next_paper (Next.Refused code node) = refuses (code_number code) node
+abbrev pub next_paper : Std.Option (ℕ × ℕ) → Sexp
+next_paper (Some p) = branch p.0 p.1
+next_paper None = atomic
 
 -- checkpoint_node_status
-abbrev pub status_paper : NodeStatus → Said Status
-status_paper NodeStatus.Before = says before
-status_paper NodeStatus.AfterNewBytes = says after_new_bytes
-status_paper (NodeStatus.AfterOldBytes start end) = says (after_old_bytes start end)
-status_paper (NodeStatus.Refused code node) = refuses (code_number code) node
-
--- checkpoint
-abbrev pub taken_paper : Taken → Said Checkpoint
-taken_paper (Taken.Plain k) = says k
-taken_paper (Taken.Refused code node) = refuses (code_number code) node
-
--- transparent_checkpoint
-abbrev pub taken_counts_paper : TakenCounts → Said Counts
-taken_counts_paper (TakenCounts.Transparent k) = says k
-taken_counts_paper (TakenCounts.Refused code node) = refuses (code_number code) node
-
--- the node of a creating call
-abbrev pub answer_paper : Answer → Said ℕ
-answer_paper (Answer.Node n) = says n
-answer_paper (Answer.Refused code node) = refuses (code_number code) node
+abbrev pub status_paper : NodeStatus → Status
+status_paper NodeStatus.Before = before
+status_paper NodeStatus.AfterNewBytes = after_new_bytes
+status_paper (NodeStatus.AfterOldBytes start end) = after_old_bytes start end
 
 -- maybe_restore_with_node
-abbrev pub maybe_paper : MaybeRestore → Said Restoring
-maybe_paper MaybeRestore.NoReplace = says no_replace
-maybe_paper (MaybeRestore.Replace n) = says (replace n)
-maybe_paper MaybeRestore.Aborted = says aborted
-maybe_paper (MaybeRestore.Refused code node) = refuses (code_number code) node
+abbrev pub maybe_paper : MaybeRestore → Restoring
+maybe_paper MaybeRestore.NoReplace = no_replace
+maybe_paper (MaybeRestore.Replace n) = replace n
+maybe_paper MaybeRestore.Aborted = aborted
 
--- all that a call gives: its answer, the record, and what it was lent for writing
-abbrev pub made : {L : Type 0} → Made → L → Out ℕ L
-made r s = record { said = answer_paper r.answer; rec = r.state; lent = s }
+-- all that a call gives: its answer, the record as it leaves it, and what it was lent for writing
+abbrev pub made : {L : Type 0} → Result ℕ Refusal → Allocator → L → Out ℕ L
+made r a s = record { said = said_in r; rec = a; lent = s }
 
-abbrev pub changed : Changed → Out Done NoLists
-changed r = record { said = verdict_paper r.verdict; rec = r.state; lent = no_lists }
+abbrev pub changed : Result (Unit {0}) Refusal → Allocator → Out Done NoLists
+changed r a = record { said = verdict_paper r; rec = a; lent = no_lists }
 
-abbrev pub restored : Restored → Store → Out Restoring Store
-restored r s = record { said = maybe_paper r.answer; rec = r.state; lent = s }
+abbrev pub restored : Result MaybeRestore Refusal → Allocator → Store → Out Restoring Store
+restored r a s = record { said = said_by maybe_paper r; rec = a; lent = s }
 
-abbrev pub loaded : Loaded → Lists → Reading
-loaded r l = reading (answer_paper r.answer) r.at r.state l
+-- what reading a file, or an item of it, gives: the node and the next item's place, or the refusal and the place of the item at fault
+abbrev pub loaded : Result Loaded Fault → Allocator → Lists → Reading
+loaded (Ok r) a l = reading (says r.node) r.next a l
+loaded (Err e) a l = reading (refuses (code_number e.refusal.code) e.refusal.node) e.at a l

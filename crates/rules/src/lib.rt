@@ -1,10 +1,12 @@
-// The types of the port: the record, its checkpoints, the codes, and one answer enum for each kind of answer.
+// The types of the port: the record, its checkpoints, the codes and the refusals, and what the calls answer.
 // What each case means, with document 01's numbers, is set out in specs/Paper.antt.
 #![tactic(auto)]
 
+ghost use Rattle.std.specs.Prelude.{◌≡◌, MatchResult, true, false};
+
 // How many atoms, pairs and bytes.
 #[repr(C)]
-#[derive(Clone, Copy)]
+#[derive(Clone, Copy, PartialEq, Eq)]
 pub struct Counts {
     pub atoms: usize,
     pub pairs: usize,
@@ -13,7 +15,7 @@ pub struct Counts {
 
 // The record: seven numbers. What is used lies in the lent slices; ghosts are counted as if they did.
 #[repr(C)]
-#[derive(Clone, Copy)]
+#[derive(Clone, Copy, PartialEq, Eq)]
 pub struct Allocator {
     pub used: Counts,
     pub ghosts: Counts,
@@ -22,54 +24,56 @@ pub struct Allocator {
 
 // A plain checkpoint. A transparent one is the used counts alone.
 #[repr(C)]
-#[derive(Clone, Copy)]
+#[derive(Clone, Copy, PartialEq, Eq)]
 pub struct Checkpoint {
     pub used: Counts,
     pub ghosts: Counts,
 }
 
-// Why a call refuses, in the order of document 01's table.
-#[derive(Clone, Copy)]
+// Why a call refuses, with the number of document 01's table; the only place in the code that knows the numbers. 16 is the request program's
+// own, and the numbers after it are document 02's.
+#[derive(Clone, Copy, PartialEq, Eq)]
 pub enum Code {
-    Unsound,
-    OutOfMemory,
-    TooManyAtoms,
-    TooManyPairs,
-    NotValid,
-    ExpectedAtom,
-    StartOutOfBounds,
-    EndOutOfBounds,
-    InvalidBounds,
-    InvalidSize,
-    NotUsable,
-    InvalidRange,
-    TooLarge,
-    TooFewGhosts,
-    Full,
-    // 16 is the request program's own. These are document 02's.
-    BadEncoding,
-    TooDeep,
-    NoSpace,
+    Unsound = 1,
+    OutOfMemory = 2,
+    TooManyAtoms = 3,
+    TooManyPairs = 4,
+    NotValid = 5,
+    ExpectedAtom = 6,
+    StartOutOfBounds = 7,
+    EndOutOfBounds = 8,
+    InvalidBounds = 9,
+    InvalidSize = 10,
+    NotUsable = 11,
+    InvalidRange = 12,
+    TooLarge = 13,
+    TooFewGhosts = 14,
+    Full = 15,
+    BadEncoding = 17,
+    TooDeep = 18,
+    NoSpace = 19,
 }
 
-// A call that answers nothing but whether it was done: the code, and the node that goes with it.
-#[derive(Clone, Copy)]
-pub enum Verdict {
-    Done,
-    Refused(Code, u32),
+// The small atom 0: it stands beside a code that names no node of its own.
+pub const NIL: u32 = 134217728;
+
+// What a call answers that refuses: the code, and the node that goes with it.
+#[derive(Clone, Copy, PartialEq, Eq)]
+pub struct Refusal {
+    pub code: Code,
+    pub node: u32,
 }
 
 // The kind of a node.
-#[derive(Clone, Copy)]
+#[derive(Clone, Copy, PartialEq, Eq)]
 pub enum ObjectType {
     Pair,
     Bytes,
     SmallAtom,
-    Refused(Code, u32),
 }
 
 // A node's bits taken apart: its index, or its value.
-#[derive(Clone, Copy)]
+#[derive(Clone, Copy, PartialEq, Eq)]
 pub enum View {
     Pair(usize),
     Bytes(usize),
@@ -78,131 +82,70 @@ pub enum View {
 }
 
 // A node argument after its tests: a pair's index; a Bytes node's index, start and end; a value.
-#[derive(Clone, Copy)]
+#[derive(Clone, Copy, PartialEq, Eq)]
 pub enum Arg {
     Pair(usize),
     Bytes(usize, usize, usize),
     Small(u32),
-    Refused(Code, u32),
 }
 
 // An atom argument after its tests: the range of its bytes, or its value.
-#[derive(Clone, Copy)]
+#[derive(Clone, Copy, PartialEq, Eq)]
 pub enum Atom {
     Range(usize, usize),
     Value(u32),
-    Refused(Code, u32),
-}
-
-#[derive(Clone, Copy)]
-pub enum Number {
-    Is(usize),
-    Refused(Code, u32),
-}
-
-#[derive(Clone, Copy)]
-pub enum Truth {
-    Yes,
-    No,
-    Refused(Code, u32),
-}
-
-// What a byte string is as a small atom.
-#[derive(Clone, Copy)]
-pub enum Fits {
-    Value(u32),
-    Nothing,
-}
-
-#[derive(Clone, Copy)]
-pub enum SmallNumber {
-    Value(u32),
-    Nothing,
-    Refused(Code, u32),
 }
 
 // What node() answers: where the bytes lie, the value, or the two children.
-#[derive(Clone, Copy)]
+#[derive(Clone, Copy, PartialEq, Eq)]
 pub enum NodeVisitor {
     Buffer(usize, usize),
     U32(u32),
     Pair(u32, u32),
-    Refused(Code, u32),
 }
 
-#[derive(Clone, Copy)]
+#[derive(Clone, Copy, PartialEq, Eq)]
 pub enum SExp {
     Atom,
     Pair(u32, u32),
-    Refused(Code, u32),
-}
-
-#[derive(Clone, Copy)]
-pub enum Next {
-    Pair(u32, u32),
-    Nothing,
-    Refused(Code, u32),
 }
 
 // Whether a node outlives a restore, and if not whether its bytes do.
-#[derive(Clone, Copy)]
+#[derive(Clone, Copy, PartialEq, Eq)]
 pub enum NodeStatus {
     Before,
     AfterNewBytes,
     AfterOldBytes(usize, usize),
-    Refused(Code, u32),
 }
 
-#[derive(Clone, Copy)]
-pub enum Taken {
-    Plain(Checkpoint),
-    Refused(Code, u32),
-}
-
-#[derive(Clone, Copy)]
-pub enum TakenCounts {
-    Transparent(Counts),
-    Refused(Code, u32),
-}
-
-// The node that a creating call made.
-#[derive(Clone, Copy)]
-pub enum Answer {
-    Node(u32),
-    Refused(Code, u32),
-}
-
-#[derive(Clone, Copy)]
+#[derive(Clone, Copy, PartialEq, Eq)]
 pub enum MaybeRestore {
     NoReplace,
     Replace(u32),
     Aborted,
-    Refused(Code, u32),
 }
 
-// An answer beside the record that the call leaves.
-#[derive(Clone, Copy)]
-pub struct Made {
-    pub answer: Answer,
-    pub state: Allocator,
-}
-
-#[derive(Clone, Copy)]
-pub struct Changed {
-    pub verdict: Verdict,
-    pub state: Allocator,
-}
-
-#[derive(Clone, Copy)]
-pub struct Restored {
-    pub answer: MaybeRestore,
-    pub state: Allocator,
-}
-
-// What reading a file comes to: the node, and where in the file the next item starts; or a code, and where the item at fault starts.
-#[derive(Clone, Copy)]
+// What reading an item of a file comes to: its node, and where in the file the next item starts.
+#[derive(Clone, Copy, PartialEq, Eq)]
 pub struct Loaded {
-    pub answer: Answer,
+    pub node: u32,
+    pub next: usize,
+}
+
+// Why a file is refused, and where in it the item at fault starts.
+#[derive(Clone, Copy, PartialEq, Eq)]
+pub struct Fault {
+    pub refusal: Refusal,
     pub at: usize,
-    pub state: Allocator,
+}
+
+// A test of a call, as document 01's table has it: a call goes on where it holds, and else refuses with a code and a node.
+pub fn need(holds: bool, code: Code, node: u32) -> Result<(), Refusal>
+    ensures { MatchResult result (λ u. holds ≡ true) (λ r. (holds ≡ false) × (r.code ≡ code) × (r.node ≡ node)) }
+{
+    if holds {
+        Ok(())
+    } else {
+        Err(Refusal { code, node })
+    }
 }

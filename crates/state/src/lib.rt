@@ -1,6 +1,6 @@
 // A state: its record and the slices lent beside it. The public calls that make a record, read its counts, take a
 // checkpoint of it, or say whether a state is well-formed.
-#![tactic(auto)]
+#![tactic(auto, unfolding(rules::specs::Said::need))]
 
 pub mod record;
 pub mod sound;
@@ -13,112 +13,93 @@ ghost use Rattle.rules.specs.Lent.{lists_in};
 ghost use Rattle.rules.specs.Record.{atom_count, allocated_atom_count, pair_count, allocated_pair_count};
 ghost use Rattle.rules.specs.Record.{heap_size, allocated_heap_size, checkpoint as checkpoint_of};
 ghost use Rattle.rules.specs.Record.{transparent_checkpoint, new_limited};
-ghost use Rattle.rules.specs.Paper.{number_paper, taken_paper, taken_counts_paper, changed};
+ghost use Rattle.rules.specs.Paper.{said_in, changed};
 
-use rules::{Allocator, Changed, Code, Number, Taken, TakenCounts, Verdict};
+use rules::{Allocator, Checkpoint, Code, Counts, NIL, Refusal, need};
 
-// A refusal of a call that makes no node: the record as it was given.
-pub fn refused(code: Code, a: Allocator) -> Changed
-    ensures { (result.verdict ≡ Verdict.Refused code 134217728) × (result.state ≡ a) }
+// A fresh record: nil and one are counted as if they had been allocated. A refused limit gives the record for limit 0.
+#[tactic(auto, unfolding(rules::specs::Said::need, rules::specs::Record::new_limited))]
+pub fn new_limited(a: &mut Allocator, limit: usize) -> Result<(), Refusal>
+    ensures { changed result a.new ≡ new_limited limit }
 {
-    Changed {
-        verdict: Verdict::Refused(code, node::NIL),
-        state: a,
-    }
-}
-
-// A fresh record: nil and one are counted as if they had been allocated.
-pub fn new_limited(limit: usize) -> Changed
-    ensures { changed result ≡ new_limited limit }
-{
-    if limit <= record::TOP {
-        return Changed {
-            verdict: Verdict::Done,
-            state: record::fresh(limit),
-        };
-    }
-    refused(Code::Unsound, record::fresh(0))
+    *a = record::fresh(0);
+    need(limit <= record::TOP, Code::Unsound, NIL)?;
+    *a = record::fresh(limit);
+    Ok(())
 }
 
 // A count of a sound record.
-fn counted(a: Allocator, count: usize) -> Number
-    ensures { number_paper result ≡ need (limits_sound a) 1 nil (says count) }
+fn counted(a: &Allocator, count: usize) -> Result<usize, Refusal>
+    ensures { said_in result ≡ need (limits_sound a.now) 1 nil (says count) }
 {
-    if sound::limits_sound(a) {
-        return Number::Is(count);
-    }
-    Number::Refused(Code::Unsound, node::NIL)
+    need(sound::limits_sound(a), Code::Unsound, NIL)?;
+    Ok(count)
 }
 
-pub fn atom_count(a: Allocator) -> Number
-    ensures { number_paper result ≡ atom_count a }
+pub fn atom_count(a: &Allocator) -> Result<usize, Refusal>
+    ensures { said_in result ≡ atom_count a.now }
 {
     counted(a, sound::total(a.used.atoms, a.ghosts.atoms))
 }
 
-pub fn allocated_atom_count(a: Allocator) -> Number
-    ensures { number_paper result ≡ allocated_atom_count a }
+pub fn allocated_atom_count(a: &Allocator) -> Result<usize, Refusal>
+    ensures { said_in result ≡ allocated_atom_count a.now }
 {
     counted(a, a.used.atoms)
 }
 
-pub fn pair_count(a: Allocator) -> Number
-    ensures { number_paper result ≡ pair_count a }
+pub fn pair_count(a: &Allocator) -> Result<usize, Refusal>
+    ensures { said_in result ≡ pair_count a.now }
 {
     counted(a, sound::total(a.used.pairs, a.ghosts.pairs))
 }
 
-pub fn allocated_pair_count(a: Allocator) -> Number
-    ensures { number_paper result ≡ allocated_pair_count a }
+pub fn allocated_pair_count(a: &Allocator) -> Result<usize, Refusal>
+    ensures { said_in result ≡ allocated_pair_count a.now }
 {
     counted(a, a.used.pairs)
 }
 
-pub fn heap_size(a: Allocator) -> Number
-    ensures { number_paper result ≡ heap_size a }
+pub fn heap_size(a: &Allocator) -> Result<usize, Refusal>
+    ensures { said_in result ≡ heap_size a.now }
 {
     counted(a, sound::total(a.used.bytes, a.ghosts.bytes))
 }
 
-pub fn allocated_heap_size(a: Allocator) -> Number
-    ensures { number_paper result ≡ allocated_heap_size a }
+pub fn allocated_heap_size(a: &Allocator) -> Result<usize, Refusal>
+    ensures { said_in result ≡ allocated_heap_size a.now }
 {
     counted(a, a.used.bytes)
 }
 
 // The six numbers to which a plain restore goes back.
-pub fn checkpoint(a: Allocator) -> Taken
-    ensures { taken_paper result ≡ checkpoint_of a }
+pub fn checkpoint(a: &Allocator) -> Result<Checkpoint, Refusal>
+    ensures { said_in result ≡ checkpoint_of a.now }
 {
-    if sound::limits_sound(a) {
-        return Taken::Plain(record::checkpoint(a));
-    }
-    Taken::Refused(Code::Unsound, node::NIL)
+    need(sound::limits_sound(a), Code::Unsound, NIL)?;
+    Ok(record::checkpoint(*a))
 }
 
 // The three used counts to which a transparent restore cuts.
-pub fn transparent_checkpoint(a: Allocator) -> TakenCounts
-    ensures { taken_counts_paper result ≡ transparent_checkpoint a }
+pub fn transparent_checkpoint(a: &Allocator) -> Result<Counts, Refusal>
+    ensures { said_in result ≡ transparent_checkpoint a.now }
 {
-    if sound::limits_sound(a) {
-        let used = a.used;
-        return TakenCounts::Transparent(used);
-    }
-    TakenCounts::Refused(Code::Unsound, node::NIL)
+    need(sound::limits_sound(a), Code::Unsound, NIL)?;
+    Ok(a.used)
 }
 
 // Whether the record and all used slots are sound.
+#[tactic(auto, unfolding(rules::specs::State::well_formed))]
 pub fn well_formed(
-    a: Allocator,
+    a: &Allocator,
     bytes: &[u8],
     starts: &[u32],
     ends: &[u32],
     firsts: &[u32],
     rests: &[u32],
 ) -> bool
-    ensures { result ≡ well_formed a (lists_in bytes.now starts.now ends.now firsts.now rests.now) }
+    ensures { result ≡ well_formed a.now (lists_in bytes.now starts.now ends.now firsts.now rests.now) }
 {
-    let used = a.used;
     if sound::lists_sound(
         a,
         bytes.len(),
@@ -127,8 +108,8 @@ pub fn well_formed(
         firsts.len(),
         rests.len(),
     ) {
-        if sound::atom_slots_sound(used, starts, ends) {
-            return sound::pair_slots_sound(used, firsts, rests);
+        if sound::atom_slots_sound(&a.used, starts, ends) {
+            return sound::pair_slots_sound(&a.used, firsts, rests);
         }
     }
     false

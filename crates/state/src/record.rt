@@ -36,20 +36,17 @@ pub fn fresh(limit: usize) -> Allocator
 fn moved(used: Counts, ghosts: Counts, a: Allocator) -> Allocator
     ensures { result ≡ moved_to used ghosts a }
 {
-    Allocator {
-        used,
-        ghosts,
-        limit: a.limit,
-    }
+    Allocator { used, ghosts, ..a }
 }
 
 // The plain checkpoint of a record.
 pub fn checkpoint(a: Allocator) -> Checkpoint
     ensures { result ≡ checkpoint_of a }
 {
-    let used = a.used;
-    let ghosts = a.ghosts;
-    Checkpoint { used, ghosts }
+    Checkpoint {
+        used: a.used,
+        ghosts: a.ghosts,
+    }
 }
 
 // One stored atom more, of len bytes.
@@ -59,8 +56,8 @@ pub fn used_atom(len: usize, a: Allocator) -> Allocator
 {
     let used = Counts {
         atoms: a.used.atoms + 1,
-        pairs: a.used.pairs,
         bytes: a.used.bytes + len,
+        ..a.used
     };
     moved(used, a.ghosts, a)
 }
@@ -71,9 +68,8 @@ pub fn used_pair(a: Allocator) -> Allocator
     ensures { result ≡ used_pair a }
 {
     let used = Counts {
-        atoms: a.used.atoms,
         pairs: a.used.pairs + 1,
-        bytes: a.used.bytes,
+        ..a.used
     };
     moved(used, a.ghosts, a)
 }
@@ -85,8 +81,8 @@ pub fn ghost_atom(len: usize, a: Allocator) -> Allocator
 {
     let ghosts = Counts {
         atoms: a.ghosts.atoms + 1,
-        pairs: a.ghosts.pairs,
         bytes: a.ghosts.bytes + len,
+        ..a.ghosts
     };
     moved(a.used, ghosts, a)
 }
@@ -98,19 +94,9 @@ pub fn with_ghosts(atoms: usize, pairs: usize, a: Allocator) -> Allocator
     let ghosts = Counts {
         atoms,
         pairs,
-        bytes: a.ghosts.bytes,
+        ..a.ghosts
     };
     moved(a.used, ghosts, a)
-}
-
-// What of x is above y.
-fn above(x: usize, y: usize) -> usize
-    ensures { result ≡ x - y }
-{
-    if x <= y {
-        return 0;
-    }
-    x - y
 }
 
 // What a cut to k frees: bytes cut + 8 × (atoms cut + pairs cut).
@@ -119,9 +105,9 @@ pub fn savings(k: Counts, a: Allocator) -> usize
     ensures value { result ≡ savings_of k a }
     ensures bound { result < 8589934592 }
 {
-    let bytes = above(a.used.bytes, k.bytes);
-    let atoms = above(a.used.atoms, k.atoms);
-    let pairs = above(a.used.pairs, k.pairs);
+    let bytes = a.used.bytes.saturating_sub(k.bytes);
+    let atoms = a.used.atoms.saturating_sub(k.atoms);
+    let pairs = a.used.pairs.saturating_sub(k.pairs);
     bytes + 8 * (atoms + pairs)
 }
 
@@ -153,8 +139,8 @@ pub fn less_ghosts(len: usize, a: Allocator) -> Allocator
 {
     let ghosts = Counts {
         atoms: a.ghosts.atoms - 1,
-        pairs: a.ghosts.pairs,
         bytes: a.ghosts.bytes - len,
+        ..a.ghosts
     };
     moved(a.used, ghosts, a)
 }

@@ -4,6 +4,9 @@ ghost use Rattle.rules.specs.Node.{valid_node};
 ghost use Rattle.rules.specs.State.{limits_sound, atoms_sound_at, pairs_sound_at, slots_sound_at, bytes_sound_at, lists_sound_at, range_sound, children_sound};
 ghost use Rattle.rules.specs.State.{atom_slots_sound, pair_slots_sound};
 ghost use Rattle.rules.specs.Lent.{atom_slots_in, pair_slots_in};
+ghost use Rattle.rules.proofs.Limits.{Limits};
+ghost use Rattle.rules.proofs.Sound.{AtomsLent, PairsLent, SlotsLent, StoreLent, ListsLent};
+ghost use Rattle.std.specs.Bool.{OnTrue};
 
 use rules::{Allocator, Counts, View};
 
@@ -20,8 +23,9 @@ pub fn total(x: usize, y: usize) -> usize
 }
 
 // Whether the record's own numbers are within the limits.
-pub fn limits_sound(a: Allocator) -> bool
-    ensures { result ≡ limits_sound a }
+pub fn limits_sound(a: &Allocator) -> bool
+    ensures value { result ≡ limits_sound a.now }
+    ensures facts { OnTrue result (Limits a.now) }
 {
     if super::record::TOP < a.used.bytes {
         return false;
@@ -44,75 +48,61 @@ pub fn limits_sound(a: Allocator) -> bool
 pub fn fit(n: usize, one: usize, other: usize) -> bool
     ensures { result ≡ (leb n one && leb n other) }
 {
-    if one < n {
-        return false;
-    }
-    n <= other
+    n <= one && n <= other
 }
 
 // Whether the record is sound beside atom slots of these lengths.
-pub fn atoms_sound(a: Allocator, starts: usize, ends: usize) -> bool
-    ensures { result ≡ atoms_sound_at a starts ends }
+pub fn atoms_sound(a: &Allocator, starts: usize, ends: usize) -> bool
+    ensures value { result ≡ atoms_sound_at a.now starts ends }
+    ensures facts { OnTrue result (AtomsLent a.now starts ends) }
 {
-    if limits_sound(a) {
-        return fit(a.used.atoms, starts, ends);
-    }
-    false
+    limits_sound(a) && fit(a.used.atoms, starts, ends)
 }
 
 // Whether the record is sound beside pair slots of these lengths.
-pub fn pairs_sound(a: Allocator, firsts: usize, rests: usize) -> bool
-    ensures { result ≡ pairs_sound_at a firsts rests }
+pub fn pairs_sound(a: &Allocator, firsts: usize, rests: usize) -> bool
+    ensures value { result ≡ pairs_sound_at a.now firsts rests }
+    ensures facts { OnTrue result (PairsLent a.now firsts rests) }
 {
-    if limits_sound(a) {
-        return fit(a.used.pairs, firsts, rests);
-    }
-    false
+    limits_sound(a) && fit(a.used.pairs, firsts, rests)
 }
 
 // Whether the record is sound beside atom and pair slots of these lengths.
-pub fn slots_sound(a: Allocator, starts: usize, ends: usize, firsts: usize, rests: usize) -> bool
-    ensures { result ≡ slots_sound_at a starts ends firsts rests }
+pub fn slots_sound(a: &Allocator, starts: usize, ends: usize, firsts: usize, rests: usize) -> bool
+    ensures value { result ≡ slots_sound_at a.now starts ends firsts rests }
+    ensures facts { OnTrue result (SlotsLent a.now starts ends firsts rests) }
 {
-    if atoms_sound(a, starts, ends) {
-        return fit(a.used.pairs, firsts, rests);
-    }
-    false
+    atoms_sound(a, starts, ends) && fit(a.used.pairs, firsts, rests)
 }
 
 // Whether the record is sound beside bytes and atom slots of these lengths.
-pub fn bytes_sound(a: Allocator, bytes: usize, starts: usize, ends: usize) -> bool
-    ensures { result ≡ bytes_sound_at a bytes starts ends }
+pub fn bytes_sound(a: &Allocator, bytes: usize, starts: usize, ends: usize) -> bool
+    ensures value { result ≡ bytes_sound_at a.now bytes starts ends }
+    ensures facts { OnTrue result (StoreLent a.now bytes starts ends) }
 {
-    if atoms_sound(a, starts, ends) {
-        return a.used.bytes <= bytes;
-    }
-    false
+    atoms_sound(a, starts, ends) && a.used.bytes <= bytes
 }
 
 // Whether the record is sound beside all five slices.
 pub fn lists_sound(
-    a: Allocator,
+    a: &Allocator,
     bytes: usize,
     starts: usize,
     ends: usize,
     firsts: usize,
     rests: usize,
 ) -> bool
-    ensures { result ≡ lists_sound_at a bytes starts ends firsts rests }
+    ensures value { result ≡ lists_sound_at a.now bytes starts ends firsts rests }
+    ensures facts { OnTrue result (ListsLent a.now bytes starts ends firsts rests) }
 {
-    if slots_sound(a, starts, ends, firsts, rests) {
-        return a.used.bytes <= bytes;
-    }
-    false
+    slots_sound(a, starts, ends, firsts, rests) && a.used.bytes <= bytes
 }
 
 // Whether a node is valid where so many atoms and pairs are used.
 pub fn valid(n: u32, atoms: usize, pairs: usize) -> bool
     ensures { result ≡ valid_node atoms pairs n }
 {
-    let view = node::view(n);
-    match view {
+    match node::view(n) {
         View::Pair(i) => i < pairs,
         View::Bytes(i) => i < atoms,
         View::Small(_) => true,
@@ -124,34 +114,23 @@ pub fn valid(n: u32, atoms: usize, pairs: usize) -> bool
 pub fn range_sound(start: u32, end: u32, bytes: usize) -> bool
     ensures { result ≡ range_sound bytes start end }
 {
-    if end < start {
-        return false;
-    }
-    end as usize <= bytes
+    start <= end && end as usize <= bytes
 }
 
 // Whether pair slot i may hold these children.
 pub fn children_sound(first: u32, rest: u32, atoms: usize, i: usize) -> bool
     ensures { result ≡ children_sound atoms i first rest }
 {
-    if valid(first, atoms, i) {
-        return valid(rest, atoms, i);
-    }
-    false
+    valid(first, atoms, i) && valid(rest, atoms, i)
 }
 
 // Whether the first atom slots lie within the first bytes, both as used says.
-pub fn atom_slots_sound(used: Counts, starts: &[u32], ends: &[u32]) -> bool
-    requires { (used.atoms ≤ length starts.now) × (used.atoms ≤ length ends.now) }
-    ensures { result ≡ atom_slots_sound used (atom_slots_in starts.now ends.now) }
+pub fn atom_slots_sound(used: &Counts, starts: &[u32], ends: &[u32]) -> bool
+    requires { (used.now.atoms ≤ length starts.now) × (used.now.atoms ≤ length ends.now) }
+    ensures { result ≡ atom_slots_sound used.now (atom_slots_in starts.now ends.now) }
 {
-    let count = used.atoms;
-    let bytes = used.bytes;
-    let mut i = 0;
-    while i < count {
-        if range_sound(starts[i], ends[i], bytes) {
-            i += 1;
-        } else {
+    for i in 0..used.atoms {
+        if !range_sound(starts[i], ends[i], used.bytes) {
             return false;
         }
     }
@@ -159,17 +138,12 @@ pub fn atom_slots_sound(used: Counts, starts: &[u32], ends: &[u32]) -> bool
 }
 
 // Whether the first pair slots have their children among the atoms that used says and the pairs before them.
-pub fn pair_slots_sound(used: Counts, firsts: &[u32], rests: &[u32]) -> bool
-    requires { (used.pairs ≤ length firsts.now) × (used.pairs ≤ length rests.now) }
-    ensures { result ≡ pair_slots_sound used (pair_slots_in firsts.now rests.now) }
+pub fn pair_slots_sound(used: &Counts, firsts: &[u32], rests: &[u32]) -> bool
+    requires { (used.now.pairs ≤ length firsts.now) × (used.now.pairs ≤ length rests.now) }
+    ensures { result ≡ pair_slots_sound used.now (pair_slots_in firsts.now rests.now) }
 {
-    let count = used.pairs;
-    let atoms = used.atoms;
-    let mut i = 0;
-    while i < count {
-        if children_sound(firsts[i], rests[i], atoms, i) {
-            i += 1;
-        } else {
+    for i in 0..used.pairs {
+        if !children_sound(firsts[i], rests[i], used.atoms, i) {
             return false;
         }
     }

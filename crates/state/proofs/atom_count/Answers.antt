@@ -6,4 +6,4 @@ use Rattle.state.proofs.atom_count.Goals as goal
 
 pub returns : goal.returns
 returns c =
-    simp (c.counted.ensures, c.total.ensures) (count_uncapped c.args.a (atoms c.args.a) λ l. omega arith)
+    simp (c.counted.ensures, c.total.ensures) (count_uncapped c.args.a.now (atoms c.args.a.now) λ l. omega arith)

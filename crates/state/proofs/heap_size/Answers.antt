@@ -6,4 +6,4 @@ use Rattle.state.proofs.heap_size.Goals as goal
 
 pub returns : goal.returns
 returns c =
-    simp (c.counted.ensures, c.total.ensures) (count_uncapped c.args.a (heap c.args.a) λ l. omega arith)
+    simp (c.counted.ensures, c.total.ensures) (count_uncapped c.args.a.now (heap c.args.a.now) λ l. omega arith)

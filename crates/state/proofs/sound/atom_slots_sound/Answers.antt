@@ -1,21 +1,15 @@
--- `state::sound::atom_slots_sound` meets its contract: the slots passed are sound. Assumes nothing.
+-- `state::sound::atom_slots_sound` meets its contract: the slots passed are sound.
+use Rattle.std.proofs.Common.{sym, ◌∙◌}
 use Rattle.rules.proofs.Alls.{all_none, all_more, all_false}
-use native.Mathlib.Omega.{arith}
-use mathlib.Core.Path.{◌≡◌, sym, ◌∙◌}
 use Rattle.state.proofs.sound.atom_slots_sound.Goals as goal
 
 pub loop-i-init : goal.loop-i-init
-loop-i-init c = (omega arith, all_none _)
+loop-i-init c = all_none _
 
 pub loop-i-preserved : goal.loop-i-preserved
 loop-i-preserved c =
-    (omega arith, all_more _ c.loop-i.i c.loop-i.invariant.1 (sym c.range_sound.ensures ∙ c.if-range_sound.true))
+    all_more _ c.loop-i.i c.loop-i.invariant (sym c.range_sound.ensures ∙ c.if-not-range_sound.false)
 
-pub returns-else-range_sound : goal.returns-else-range_sound
-returns-else-range_sound c =
-    sym (all_false _ c.args.used.atoms c.loop-i.i c.loop-i-test.true (sym c.range_sound.ensures ∙ c.if-range_sound.false))
-
-pub returns : goal.returns
-returns c =
-    let e : c.loop-i.i ≡ c.args.used.atoms = omega arith in
-    rw (← e) (sym c.loop-i.invariant.1)
+pub returns-then-not-range_sound : goal.returns-then-not-range_sound
+returns-then-not-range_sound c =
+    sym (all_false _ c.args.used.now.atoms c.loop-i.i c.loop-i-test.true (sym c.range_sound.ensures ∙ c.if-not-range_sound.true))
