@@ -3,6 +3,7 @@
 
 ghost use Rattle.std.specs.Prelude.{◌≡◌, ◌∷◌, ◌++◌, ◌≤◌, ◌<◌, length, drop};
 ghost use Rattle.rules.specs.Node.{view as viewed, node_of};
+ghost use Rattle.rules.proofs.Args.{Low};
 ghost use Rattle.rules.specs.Small.{big as big_of, be, fits, len_for};
 ghost use Rattle.rules.specs.Reads.{object_type, node_index, is_atom, is_pair};
 ghost use Rattle.rules.specs.Paper.{said_in, said_by, view_paper, kind_paper, option_paper};
@@ -45,7 +46,8 @@ fn big(v: &[u8]) -> u32
 
 // What a number is as a node: the kind in the top 6 bits, the index or the value in the low 26.
 pub fn view(n: u32) -> View
-    ensures { view_paper result ≡ viewed n }
+    ensures value { view_paper result ≡ viewed n }
+    ensures low { Low (view_paper result) }
 {
     let kind = n / INDICES;
     let index = n % INDICES;

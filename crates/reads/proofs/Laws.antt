@@ -1,7 +1,7 @@
 -- Laws of comparing bytes, and of the part that atom hands back. Assumes nothing.
 use Prim.Native.Nat.{ℕ, ◌+◌, ◌-◌, ◌≤◌, ◌<◌}
 use mathlib.Core.Path.{◌≡◌, refl, sym, ap, ap₂, subst, ◌∙◌}
-use mathlib.Core.Bool.{Bool, true, false, false≢true}
+use mathlib.Core.Bool.{Bool, true, false, ◌&&◌, false≢true}
 use mathlib.Core.List.{List, [], ◌∷◌, ◌++◌, append-nil}
 use mathlib.Core.Option.{none, some}
 use native.Mathlib.Numerals.{add-one}
@@ -16,6 +16,11 @@ use Rattle.rules.specs.Said.{Said, says, refuses, says_of}
 use Rattle.rules.specs.Node.{nil}
 use Rattle.rules.specs.State.{AtomSlots, bytes_sound}
 use Rattle.rules.specs.Reads.{Arg, pair_arg, bytes_arg, small_arg, Atom, range, value, atom_arg, atom_of, atom_bytes, part_of, atom, scratch_after, part_bytes, same_bytes, eq_args}
+use Rattle.std.specs.Prelude as Std
+use Rattle.std.specs.Prelude.{Some, None}
+use Rattle.std.specs.Option.{option_eq}
+use Rattle.rules.specs.Paper.{option_paper}
+use Rattle.reads.specs.Parts.{PartIn}
 use Rattle.rules.proofs.Tests.{both}
 use Rattle.rules.proofs.Needs.{need_ind}
 use Rattle.rules.proofs.Sound.{store-lent}
@@ -53,15 +58,10 @@ same_lengths x y f = decided x y false (λ h. absurd (false≢true h)) (λ e. ab
 
 -- ---- a turn of the loop that compares
 
-pub same_step : (x y : List ℕ) (i : ℕ) → i < length x → i < length y → get_or x i 0 ≡ get_or y i 0
-    → same_bytes (drop i x) (drop i y) ≡ same_bytes (drop (i + 1) x) (drop (i + 1) y)
+pub same_next : (x y : List ℕ) (i : ℕ) → i < length x → i < length y
+    → same_bytes (drop i x) (drop i y) ≡ (eqb (get_or x i 0) (get_or y i 0) && same_bytes (drop (i + 1) x) (drop (i + 1) y))
 unfolding same_bytes
-same_step x y i h k e = rw (drop-cons x i 0 h, drop-cons y i 0 k, add-one, eq-eqb _ _ e)
-
-pub same_stop : (x y : List ℕ) (i : ℕ) → i < length x → i < length y → (get_or x i 0 ≡ get_or y i 0 → ⊥)
-    → same_bytes (drop i x) (drop i y) ≡ false
-unfolding same_bytes
-same_stop x y i h k e = rw (drop-cons x i 0 h, drop-cons y i 0 k, ne_eqb _ _ e)
+same_next x y i h k = rw (drop-cons x i 0 h, drop-cons y i 0 k, add-one) refl
 
 pub same_end : (x y : List ℕ) (i : ℕ) → length x ≤ i → length y ≤ i → same_bytes (drop i x) (drop i y) ≡ true
 unfolding same_bytes
@@ -109,21 +109,14 @@ same-unfit v l h e =
     let p = ap fits k in
     let z : ◌≡◌ {A = ℕ} 0 1 = cc in absurd (omega arith)
 
--- ---- atom_eq with an atom on the left
-
-pub eq_left : (bytes : List ℕ) (left right : ℕ) (x : Arg) (z : Atom) (y : Said Arg) → atom_arg left (says x) ≡ says z
-    → eq_args bytes left right (says x) y ≡ says_of (λ w. same_bytes (atom_bytes bytes z) (atom_bytes bytes w)) (atom_arg right y)
-eq_left bytes left right x z (refuses code node) h = refl
-eq_left bytes left right x z (says (pair_arg i)) h = rw h
-eq_left bytes left right x z (says (bytes_arg i start end)) h = rw h
-eq_left bytes left right x z (says (small_arg v)) h = rw h
+-- so a small value has the bytes of a string exactly where the string is found to be its
+pub same-found : (v : ℕ) (o : Std.Option ℕ) (l : List ℕ) → v < 67108864 → Octets l → option_paper o ≡ fits l → same_bytes (small_bytes v) l ≡ option_eq eqb o (Some v)
+same-found v (Some w) l h o e =
+    let a = fits-bytes l w o (sym e) in
+    rw (← a) (same_comm (small_bytes v) (small_bytes w) ∙ same-value w v (fits-value l w o (sym e)) h)
+same-found v None l h o e = same-unfit v l h (sym e)
 
 -- ---- what the part that atom hands back has, beside a byte store and a scratch of these lengths
-
-abbrev pub PartIn : ℕ → ℕ → Said Atom → Type 0
-PartIn bytes scratch (says (range start end)) = (start ≤ end) × (end ≤ bytes)
-PartIn bytes scratch (says (value v)) = (v < 67108864) × (scratch ≡ 4)
-PartIn bytes scratch (refuses code node) = 0 ≤ 0
 
 part_at : (bytes scratch : ℕ) (r : Said Atom) → Inside bytes r → PartIn bytes scratch (part_of scratch r)
 part_at bytes scratch (says (range start end)) h = h

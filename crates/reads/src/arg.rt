@@ -1,64 +1,72 @@
 // A node argument: 5 where it is not valid, 1 where its atom slot is unsound, 6 where a pair stands for an atom.
-ghost use Rattle.std.specs.Prelude.{◌≡◌};
-ghost use Rattle.rules.specs.Node.{bytes_at};
-ghost use Rattle.rules.specs.Lent.{atom_slots_in, AtomsWithin};
-ghost use Rattle.rules.specs.Reads.{arg_of, arg as arg_rule, atom_arg, atom_of};
-ghost use Rattle.rules.specs.Paper.{arg_paper, atom_paper};
+#![tactic(auto, unfolding(rules::specs::Said::need, rules::specs::Reads::arg_of))]
 
-use rules::{Allocator, Arg, Atom, Code, View};
+ghost use Rattle.std.specs.Prelude.{◌≡◌, IfOk};
+ghost use Rattle.rules.proofs.Args.{ArgIn, AtomIn};
+ghost use Rattle.rules.specs.Node.{bytes_at};
+ghost use Rattle.rules.specs.Said.{says};
+ghost use Rattle.rules.specs.Lent.{atoms_of, AtomsWithin};
+ghost use Rattle.rules.specs.Reads.{arg_of, arg as arg_rule, atom_arg, atom_of};
+ghost use Rattle.rules.specs.Paper.{said_by, arg_paper, atom_paper};
+
+use rules::{Allocator, Arg, Atom, AtomSlots, Code, NIL, Refusal, View, need};
 use state::sound;
 
 // The Bytes node of an index, its slot tested.
-fn slot(a: Allocator, starts: &[u32], ends: &[u32], i: usize) -> Arg
-    requires { AtomsWithin a starts.now ends.now }
-    ensures { arg_paper result ≡ arg_of a (atom_slots_in starts.now ends.now) (bytes_at i) }
+fn slot(a: &Allocator, atoms: AtomSlots, i: usize) -> Result<Arg, Refusal>
+    requires { AtomsWithin a.now atoms.starts.now atoms.ends.now }
+    ensures { said_by arg_paper result ≡ arg_of a.now (atoms_of atoms.entry) (bytes_at i) }
 {
-    if a.used.atoms <= i {
-        return Arg::Refused(Code::NotValid, node::NIL);
-    }
-    let start = starts[i];
-    let end = ends[i];
-    if sound::range_sound(start, end, a.used.bytes) {
-        return Arg::Bytes(i, node::wide(start), node::wide(end));
-    }
-    Arg::Refused(Code::Unsound, node::NIL)
+    need(i < a.used.atoms, Code::NotValid, NIL)?;
+    let start = atoms.starts[i];
+    let end = atoms.ends[i];
+    need(
+        sound::range_sound(start, end, a.used.bytes),
+        Code::Unsound,
+        NIL,
+    )?;
+    Ok(Arg::Bytes(i, start as usize, end as usize))
 }
 
 // A node argument, tested for 5 not valid, then its slot for 1 unsound.
-pub fn arg(a: Allocator, starts: &[u32], ends: &[u32], n: u32) -> Arg
-    requires { AtomsWithin a starts.now ends.now }
-    ensures { arg_paper result ≡ arg_rule a (atom_slots_in starts.now ends.now) n }
+pub fn arg(a: &Allocator, atoms: AtomSlots, n: u32) -> Result<Arg, Refusal>
+    requires { AtomsWithin a.now atoms.starts.now atoms.ends.now }
+    ensures value { said_by arg_paper result ≡ arg_rule a.now (atoms_of atoms.entry) n }
+    ensures facts { IfOk result (λ x. ArgIn a.now (atoms_of atoms.entry) (arg_paper x)) }
 {
-    let view = node::view(n);
-    match view {
+    match node::view(n) {
         View::Pair(i) => {
-            if i < a.used.pairs {
-                return Arg::Pair(i);
-            }
-            Arg::Refused(Code::NotValid, node::NIL)
+            need(i < a.used.pairs, Code::NotValid, NIL)?;
+            Ok(Arg::Pair(i))
         }
-        View::Bytes(i) => slot(a, starts, ends, i),
-        View::Small(v) => Arg::Small(v),
-        View::Bad => Arg::Refused(Code::NotValid, node::NIL),
+        View::Bytes(i) => slot(a, atoms, i),
+        View::Small(v) => Ok(Arg::Small(v)),
+        View::Bad => Err(Refusal {
+            code: Code::NotValid,
+            node: NIL,
+        }),
     }
 }
 
 // An argument as an atom: a pair is refused with that node.
-pub fn atom_arg(n: u32, x: Arg) -> Atom
-    ensures { atom_paper result ≡ atom_arg n (arg_paper x) }
+pub fn atom_arg(n: u32, x: Arg) -> Result<Atom, Refusal>
+    ensures { said_by atom_paper result ≡ atom_arg n (says (arg_paper x)) }
 {
     match x {
-        Arg::Pair(_) => Atom::Refused(Code::ExpectedAtom, n),
-        Arg::Bytes(_, start, end) => Atom::Range(start, end),
-        Arg::Small(v) => Atom::Value(v),
-        Arg::Refused(code, node) => Atom::Refused(code, node),
+        Arg::Pair(_) => Err(Refusal {
+            code: Code::ExpectedAtom,
+            node: n,
+        }),
+        Arg::Bytes(_, start, end) => Ok(Atom::Range(start, end)),
+        Arg::Small(v) => Ok(Atom::Value(v)),
     }
 }
 
 // An atom argument, tested for 5 not valid, 1 unsound slot and 6 a pair.
-pub fn atom_of(a: Allocator, starts: &[u32], ends: &[u32], n: u32) -> Atom
-    requires { AtomsWithin a starts.now ends.now }
-    ensures { atom_paper result ≡ atom_of a (atom_slots_in starts.now ends.now) n }
+pub fn atom_of(a: &Allocator, atoms: AtomSlots, n: u32) -> Result<Atom, Refusal>
+    requires { AtomsWithin a.now atoms.starts.now atoms.ends.now }
+    ensures value { said_by atom_paper result ≡ atom_of a.now (atoms_of atoms.entry) n }
+    ensures facts { IfOk result (λ x. AtomIn a.now (atom_paper x)) }
 {
-    atom_arg(n, arg(a, starts, ends, n))
+    atom_arg(n, arg(a, atoms, n)?)
 }

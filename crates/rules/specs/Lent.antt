@@ -2,6 +2,8 @@
 -- `store_in bytes.old ..` is what a call finds there, `store_in bytes.new ..` what it leaves; what is lent to be read is `bytes.now`.
 use Rattle.std.specs.Prelude.{ℕ, ◌≤◌, List, length}
 use Rattle.rules.specs.declared.Allocator.{Allocator}
+use Rattle.rules.specs.declared.AtomSlots as Lent
+use Rattle.rules.specs.declared.PairSlots as Pairs
 use Rattle.rules.specs.State.{AtomSlots, atom_slots, PairSlots, pair_slots, Lists, lists, Store, store, PairStore, pair_store, Slots, slots}
 
 -- what a reference to a lent list leads to: the list
@@ -18,6 +20,13 @@ pair_slots_in firsts rests = pair_slots firsts rests
 
 abbrev pub lists_in : Ref → Ref → Ref → Ref → Ref → Lists
 lists_in bytes starts ends firsts rests = lists bytes (atom_slots_in starts ends) (pair_slots_in firsts rests)
+
+-- the same of the structs by which reads hand them on
+abbrev pub atoms_of : Lent.AtomSlots → AtomSlots
+atoms_of s = atom_slots_in s.starts.now s.ends.now
+
+abbrev pub pairs_of : Pairs.PairSlots → PairSlots
+pairs_of s = pair_slots_in s.firsts.now s.rests.now
 
 -- ---- to a call that creates, or restores
 

@@ -22,6 +22,20 @@ pub struct Allocator {
     pub limit: usize,
 }
 
+// The atom slots, lent to be read: where the bytes of each atom begin and end.
+#[derive(Clone, Copy)]
+pub struct AtomSlots<'a> {
+    pub starts: &'a [u32],
+    pub ends: &'a [u32],
+}
+
+// The pair slots, lent to be read: the two nodes of each pair.
+#[derive(Clone, Copy)]
+pub struct PairSlots<'a> {
+    pub firsts: &'a [u32],
+    pub rests: &'a [u32],
+}
+
 // A plain checkpoint. A transparent one is the used counts alone.
 #[repr(C)]
 #[derive(Clone, Copy, PartialEq, Eq)]
