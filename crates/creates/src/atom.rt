@@ -1,45 +1,42 @@
 // New atoms: from bytes, from a small number, from integers.
-ghost use Rattle.std.specs.Prelude.{◌≡◌, ◌+◌, ◌≤◌, ◌<◌};
-ghost use Rattle.rules.specs.Node.{nil};
-ghost use Rattle.rules.specs.Small.{fits, len_for};
-ghost use Rattle.rules.specs.Said.{need, no_lists};
-ghost use Rattle.rules.specs.State.{bytes_sound_at};
+#![tactic(auto, unfolding(rules::specs::Said::need))]
+
+ghost use Rattle.std.specs.Prelude.{◌≡◌, ◌+◌, ◌≤◌, ◌<◌, OnOk};
+ghost use Rattle.std.specs.Bool.{OnTrue};
+ghost use Rattle.rules.specs.Small.{fits};
+ghost use Rattle.rules.specs.Said.{no_lists};
 ghost use Rattle.rules.specs.Lent.{store_in};
-ghost use Rattle.rules.specs.Creates.{limit_tests, store_room_at, store_atom, small_or, new_atom, small_tests, new_small_number, new_u64, new_i64};
+ghost use Rattle.rules.specs.Creates.{limit_tests, store_room_at, store_atom, small_or, new_atom, new_small_number, new_u64, new_i64};
 ghost use Rattle.rules.specs.Paper.{verdict_paper, made};
 ghost use Rattle.rules.proofs.Limits.{Limits};
 
-use rules::{Allocator, Answer, Code, Fits, Made, Verdict};
+use rules::{Allocator, Code, NIL, ObjectType, Refusal, need};
 use state::{record, sound};
 
 // Whether an atom of len bytes is within the limits: 2 out of memory, then 3 too many atoms.
-fn limit_tests(a: Allocator, len: usize) -> Verdict
-    requires { Limits a }
-    ensures { verdict_paper result ≡ limit_tests a len }
+fn limit_tests(a: &Allocator, len: usize) -> Result<(), Refusal>
+    requires { Limits a.now }
+    ensures value { verdict_paper result ≡ limit_tests a.now len }
+    ensures room { OnOk result ((a.now.used.bytes + a.now.ghosts.bytes + len ≤ a.now.limit) × (a.now.used.atoms + a.now.ghosts.atoms < 62500000)) }
 {
-    if a.limit < sound::total(a.used.bytes + a.ghosts.bytes, len) {
-        return Verdict::Refused(Code::OutOfMemory, node::NIL);
-    }
-    if sound::MOST <= a.used.atoms + a.ghosts.atoms {
-        return Verdict::Refused(Code::TooManyAtoms, node::NIL);
-    }
-    Verdict::Done
-}
-
-// The tests of new_atom beside slices of these lengths: 1 unsound, then the limits.
-fn atom_tests(a: Allocator, len: usize, bytes: usize, starts: usize, ends: usize) -> Verdict
-    ensures { verdict_paper result ≡ need (bytes_sound_at a bytes starts ends) 1 nil (limit_tests a len) }
-{
-    if sound::bytes_sound(a, bytes, starts, ends) {
-        return limit_tests(a, len);
-    }
-    Verdict::Refused(Code::Unsound, node::NIL)
+    need(
+        sound::total(a.used.bytes + a.ghosts.bytes, len) <= a.limit,
+        Code::OutOfMemory,
+        NIL,
+    )?;
+    need(
+        a.used.atoms + a.ghosts.atoms < sound::MOST,
+        Code::TooManyAtoms,
+        NIL,
+    )
 }
 
 // Whether slices of these lengths can hold len bytes and one slot more.
-pub fn store_room(a: Allocator, len: usize, bytes: usize, starts: usize, ends: usize) -> bool
-    requires { a.used.atoms < 62500000 }
-    ensures { result ≡ store_room_at a len bytes starts ends }
+pub fn store_room(a: &Allocator, len: usize, bytes: usize, starts: usize, ends: usize) -> bool
+    requires { a.now.used.atoms < 62500000 }
+    ensures value { result ≡ store_room_at a.now len bytes starts ends }
+    ensures room { OnTrue result ((a.now.used.bytes + len ≤ 4294967295) × (a.now.used.bytes + len ≤ bytes)
+        × (a.now.used.atoms < starts) × (a.now.used.atoms < ends)) }
 {
     let end = sound::total(a.used.bytes, len);
     if record::TOP < end {
@@ -52,105 +49,98 @@ pub fn store_room(a: Allocator, len: usize, bytes: usize, starts: usize, ends: u
 }
 
 // Bytes and one slot for v, where there is room for them.
+#[tactic(auto, unfolding(rules::specs::Said::need, rules::specs::Creates::store_atom))]
 pub fn store_atom(
-    a: Allocator,
+    a: &mut Allocator,
     bytes: &mut [u8],
     starts: &mut [u32],
     ends: &mut [u32],
     v: &[u8],
-) -> Made
-    requires { a.used.atoms < 62500000 }
-    ensures { made result (store_in bytes.new starts.new ends.new)
-        ≡ store_atom a v.now (store_in bytes.old starts.old ends.old) }
+) -> Result<u32, Refusal>
+    requires { a.old.used.atoms < 62500000 }
+    ensures { made result a.new (store_in bytes.new starts.new ends.new)
+        ≡ store_atom a.old v.now (store_in bytes.old starts.old ends.old) }
 {
-    if store_room(a, v.len(), bytes.len(), starts.len(), ends.len()) {
-        let from = a.used.bytes;
-        let at = a.used.atoms;
-        octets::copy(v, &mut bytes[from..]);
-        starts[at] = from as u32;
-        ends[at] = (from + v.len()) as u32;
-        return Made {
-            answer: Answer::Node(node::new(1, at as u32)),
-            state: record::used_atom(v.len(), a),
-        };
-    }
-    super::refused(Code::Full, node::NIL, a)
+    need(
+        store_room(a, v.len(), bytes.len(), starts.len(), ends.len()),
+        Code::Full,
+        NIL,
+    )?;
+    let from = a.used.bytes;
+    let at = a.used.atoms;
+    octets::copy(v, &mut bytes[from..]);
+    starts[at] = from as u32;
+    ends[at] = (from + v.len()) as u32;
+    *a = record::used_atom(v.len(), *a);
+    Ok(node::new(ObjectType::Bytes, at as u32))
 }
 
 // A fitting value becomes small, counted as so many ghost bytes; another is stored.
 pub fn small_or(
-    a: Allocator,
+    a: &mut Allocator,
     bytes: &mut [u8],
     starts: &mut [u32],
     ends: &mut [u32],
     v: &[u8],
     counted: usize,
-) -> Made
-    requires { (a.used.atoms + a.ghosts.atoms < 62500000) × (a.ghosts.bytes + counted ≤ 8589934590) }
-    ensures { made result (store_in bytes.new starts.new ends.new)
-        ≡ small_or (fits v.now) counted a v.now (store_in bytes.old starts.old ends.old) }
+) -> Result<u32, Refusal>
+    requires { (a.old.used.atoms + a.old.ghosts.atoms < 62500000) × (a.old.ghosts.bytes + counted ≤ 8589934590) }
+    ensures { made result a.new (store_in bytes.new starts.new ends.new)
+        ≡ small_or (fits v.now) counted a.old v.now (store_in bytes.old starts.old ends.old) }
 {
-    let fit = node::fits_in_small_atom(v);
-    match fit {
-        Fits::Value(n) => Made {
-            answer: Answer::Node(node::new(2, n)),
-            state: record::ghost_atom(counted, a),
-        },
-        Fits::Nothing => store_atom(a, bytes, starts, ends, v),
+    match node::fits_in_small_atom(v) {
+        Some(n) => {
+            *a = record::ghost_atom(counted, *a);
+            Ok(node::new(ObjectType::SmallAtom, n))
+        }
+        None => store_atom(a, bytes, starts, ends, v),
     }
 }
 
 // A new atom of the bytes v.
+#[tactic(auto, unfolding(rules::specs::Said::need, rules::specs::Creates::atom_tests))]
 pub fn new_atom(
-    a: Allocator,
+    a: &mut Allocator,
     bytes: &mut [u8],
     starts: &mut [u32],
     ends: &mut [u32],
     v: &[u8],
-) -> Made
-    ensures { made result (store_in bytes.new starts.new ends.new)
-        ≡ new_atom a v.now (store_in bytes.old starts.old ends.old) }
+) -> Result<u32, Refusal>
+    ensures { made result a.new (store_in bytes.new starts.new ends.new)
+        ≡ new_atom a.old v.now (store_in bytes.old starts.old ends.old) }
 {
-    let tests = atom_tests(a, v.len(), bytes.len(), starts.len(), ends.len());
-    match tests {
-        Verdict::Refused(code, node) => super::refused(code, node, a),
-        Verdict::Done => small_or(a, bytes, starts, ends, v, v.len()),
-    }
-}
-
-// The tests of new_small_number: 1 unsound, 13 too large, then the limits.
-fn small_tests(a: Allocator, v: u32, len: usize) -> Verdict
-    requires { len ≡ len_for v }
-    ensures { verdict_paper result ≡ small_tests a v }
-{
-    if sound::limits_sound(a) {
-        if node::LARGEST_SMALL < v {
-            return Verdict::Refused(Code::TooLarge, node::NIL);
-        }
-        return limit_tests(a, len);
-    }
-    Verdict::Refused(Code::Unsound, node::NIL)
+    need(
+        sound::bytes_sound(a, bytes.len(), starts.len(), ends.len()),
+        Code::Unsound,
+        NIL,
+    )?;
+    limit_tests(a, v.len())?;
+    small_or(a, bytes, starts, ends, v, v.len())
 }
 
 // A new small atom of the value v: only ghosts grow.
-pub fn new_small_number(a: Allocator, v: u32) -> Made
-    ensures { made result no_lists ≡ new_small_number a v }
+#[tactic(auto, unfolding(rules::specs::Said::need, rules::specs::Creates::small_tests))]
+pub fn new_small_number(a: &mut Allocator, v: u32) -> Result<u32, Refusal>
+    ensures { made result a.new no_lists ≡ new_small_number a.old v }
 {
     let len = node::len_for_value(v);
-    let tests = small_tests(a, v, len);
-    match tests {
-        Verdict::Refused(code, node) => super::refused(code, node, a),
-        Verdict::Done => Made {
-            answer: Answer::Node(node::new(2, v)),
-            state: record::ghost_atom(len, a),
-        },
-    }
+    need(sound::limits_sound(a), Code::Unsound, NIL)?;
+    need(v <= node::LARGEST_SMALL, Code::TooLarge, NIL)?;
+    limit_tests(a, len)?;
+    *a = record::ghost_atom(len, *a);
+    Ok(node::new(ObjectType::SmallAtom, v))
 }
 
 // A new atom of an unsigned number: its shortest bytes in two's complement.
-pub fn new_u64(a: Allocator, bytes: &mut [u8], starts: &mut [u32], ends: &mut [u32], x: u64) -> Made
-    ensures { made result (store_in bytes.new starts.new ends.new)
-        ≡ new_u64 a x (store_in bytes.old starts.old ends.old) }
+pub fn new_u64(
+    a: &mut Allocator,
+    bytes: &mut [u8],
+    starts: &mut [u32],
+    ends: &mut [u32],
+    x: u64,
+) -> Result<u32, Refusal>
+    ensures { made result a.new (store_in bytes.new starts.new ends.new)
+        ≡ new_u64 a.old x (store_in bytes.old starts.old ends.old) }
 {
     let mut buf = [0u8; 9];
     let n = integer::write_u64(&mut buf, x);
@@ -158,9 +148,15 @@ pub fn new_u64(a: Allocator, bytes: &mut [u8], starts: &mut [u32], ends: &mut [u
 }
 
 // A new atom of a signed number: its shortest bytes in two's complement.
-pub fn new_i64(a: Allocator, bytes: &mut [u8], starts: &mut [u32], ends: &mut [u32], x: i64) -> Made
-    ensures { made result (store_in bytes.new starts.new ends.new)
-        ≡ new_i64 a x (store_in bytes.old starts.old ends.old) }
+pub fn new_i64(
+    a: &mut Allocator,
+    bytes: &mut [u8],
+    starts: &mut [u32],
+    ends: &mut [u32],
+    x: i64,
+) -> Result<u32, Refusal>
+    ensures { made result a.new (store_in bytes.new starts.new ends.new)
+        ≡ new_i64 a.old x (store_in bytes.old starts.old ends.old) }
 {
     let mut buf = [0u8; 9];
     let n = integer::write_i64(&mut buf, x);

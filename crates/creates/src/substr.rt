@@ -1,111 +1,83 @@
 // A part of an atom.
-ghost use Rattle.std.specs.Prelude.{◌≡◌, List, ℕ, ◌+◌, ◌≤◌, ◌<◌, leb, length};
+#![tactic(auto, unfolding(rules::specs::Said::need))]
+
+ghost use Rattle.std.specs.Prelude.{◌≡◌, List, ℕ, ◌+◌, ◌≤◌, ◌<◌, IfOk, length};
 ghost use Rattle.std.proofs.Math.Seq.{slice};
-ghost use Rattle.rules.specs.Node.{nil};
 ghost use Rattle.rules.specs.Small.{fits, len_for, small_bytes};
-ghost use Rattle.rules.specs.Said.{need};
-ghost use Rattle.rules.specs.State.{bytes_sound_at, store};
-ghost use Rattle.rules.specs.Lent.{atom_slots_in, store_in, AtomsWithin};
-ghost use Rattle.rules.specs.Reads.{atom_of};
-ghost use Rattle.rules.specs.Creates.{atoms_left, bounded, share_range, small_or, new_substr};
-ghost use Rattle.rules.specs.Paper.{atom_paper, made};
+ghost use Rattle.rules.specs.State.{store};
+ghost use Rattle.rules.specs.Lent.{atom_slots_in, atoms_of, store_in, AtomsWithin};
+ghost use Rattle.rules.specs.Reads.{atom_length, atom_of};
+ghost use Rattle.rules.specs.Creates.{bounded, share_range, small_or, new_substr};
+ghost use Rattle.rules.specs.Paper.{said_by, atom_paper, made};
+ghost use Rattle.rules.proofs.Args.{AtomIn};
 
 use reads::arg;
-use rules::{Allocator, Answer, Atom, Code, Made};
+use rules::{Allocator, Atom, AtomSlots, Code, NIL, ObjectType, Refusal, need};
 use state::{record, sound};
 
-// The atom, if a part of its len bytes has these bounds: else, with the node, 7 start or 8 end out of bounds, 9 start past end.
-fn bounds_check(found: Atom, len: usize, n: u32, start: usize, end: usize) -> Atom
-    ensures { atom_paper result
-        ≡ need (leb start len) 7 n (need (leb end len) 8 n (need (leb start end) 9 n (atom_paper found))) }
-{
-    if len < start {
-        return Atom::Refused(Code::StartOutOfBounds, n);
-    }
-    if len < end {
-        return Atom::Refused(Code::EndOutOfBounds, n);
-    }
-    if end < start {
-        return Atom::Refused(Code::InvalidBounds, n);
-    }
-    found
-}
-
-// The atom of a node, if a part of it has these bounds: 5 not valid, 1 unsound slot, 6 a pair, then the bounds.
+// The atom of a node, if a part of it has these bounds: 5 not valid, 1 unsound slot, 6 a pair, then, with the node, 7 start or 8 end out of
+// bounds, 9 start past end.
 fn bounded_atom(
-    a: Allocator,
-    starts: &[u32],
-    ends: &[u32],
+    a: &Allocator,
+    atoms: AtomSlots,
     n: u32,
     start: usize,
     end: usize,
-) -> Atom
-    requires { AtomsWithin a starts.now ends.now }
-    ensures { atom_paper result ≡ bounded n start end (atom_of a (atom_slots_in starts.now ends.now) n) }
+) -> Result<Atom, Refusal>
+    requires { AtomsWithin a.now atoms.starts.now atoms.ends.now }
+    ensures value { said_by atom_paper result ≡ bounded n start end (atom_of a.now (atoms_of atoms.entry) n) }
+    ensures facts { IfOk result (λ x. AtomIn a.now (atom_paper x) × (start ≤ end) × (end ≤ atom_length (atom_paper x))) }
 {
-    let found = arg::atom_of(a, starts, ends, n);
-    match found {
-        Atom::Refused(code, node) => Atom::Refused(code, node),
-        Atom::Range(from, to) => bounds_check(found, to - from, n, start, end),
-        Atom::Value(v) => bounds_check(found, node::len_for_value(v), n, start, end),
-    }
-}
-
-// The tests of new_substr beside a byte store of that length: 1 unsound, 3 too many atoms, then the atom and the bounds.
-fn substr_tests(
-    a: Allocator,
-    bytes: usize,
-    starts: &[u32],
-    ends: &[u32],
-    n: u32,
-    start: usize,
-    end: usize,
-) -> Atom
-    ensures { atom_paper result
-        ≡ need (bytes_sound_at a bytes (length starts.now) (length ends.now)) 1 nil
-        (need (atoms_left a) 3 nil (bounded n start end (atom_of a (atom_slots_in starts.now ends.now) n))) }
-{
-    if sound::bytes_sound(a, bytes, starts.len(), ends.len()) {
-        if sound::MOST <= sound::total(a.used.atoms, a.ghosts.atoms) {
-            return Atom::Refused(Code::TooManyAtoms, node::NIL);
-        }
-        return bounded_atom(a, starts, ends, n, start, end);
-    }
-    Atom::Refused(Code::Unsound, node::NIL)
+    let found = arg::atom_of(a, atoms, n)?;
+    let len = match found {
+        Atom::Range(from, to) => to - from,
+        Atom::Value(v) => node::len_for_value(v),
+    };
+    need(start <= len, Code::StartOutOfBounds, n)?;
+    need(end <= len, Code::EndOutOfBounds, n)?;
+    need(start <= end, Code::InvalidBounds, n)?;
+    Ok(found)
 }
 
 // A new slot over bytes that are there, where there is room for it.
-fn share_range(a: Allocator, starts: &mut [u32], ends: &mut [u32], start: usize, end: usize) -> Made
-    requires { (a.used.atoms < 62500000) × (a.used.bytes ≤ 4294967295) × (start ≤ 4294967295) × (end ≤ 4294967295) }
-    ensures { (b : List ℕ) → made result (store b (atom_slots_in starts.new ends.new))
-        ≡ share_range a start end (store b (atom_slots_in starts.old ends.old)) }
+#[tactic(auto, unfolding(rules::specs::Said::need, rules::specs::Creates::share_range))]
+fn share_range(
+    a: &mut Allocator,
+    starts: &mut [u32],
+    ends: &mut [u32],
+    start: usize,
+    end: usize,
+) -> Result<u32, Refusal>
+    requires { (a.old.used.atoms < 62500000) × (a.old.used.bytes ≤ 4294967295) × (start ≤ 4294967295) × (end ≤ 4294967295) }
+    ensures { (b : List ℕ) → made result a.new (store b (atom_slots_in starts.new ends.new))
+        ≡ share_range a.old start end (store b (atom_slots_in starts.old ends.old)) }
 {
     let at = a.used.atoms;
-    if sound::fit(at + 1, starts.len(), ends.len()) {
-        starts[at] = start as u32;
-        ends[at] = end as u32;
-        return Made {
-            answer: Answer::Node(node::new(1, at as u32)),
-            state: record::used_atom(0, a),
-        };
-    }
-    super::refused(Code::Full, node::NIL, a)
+    need(
+        sound::fit(at + 1, starts.len(), ends.len()),
+        Code::Full,
+        NIL,
+    )?;
+    starts[at] = start as u32;
+    ends[at] = end as u32;
+    *a = record::used_atom(0, *a);
+    Ok(node::new(ObjectType::Bytes, at as u32))
 }
 
 // A part of a small atom: small again where it fits, with the heap unchanged, else stored, with no heap test.
 fn part_of_small(
-    a: Allocator,
+    a: &mut Allocator,
     bytes: &mut [u8],
     starts: &mut [u32],
     ends: &mut [u32],
     v: u32,
     start: usize,
     end: usize,
-) -> Made
-    requires counts { (a.used.atoms + a.ghosts.atoms < 62500000) × (a.ghosts.bytes ≤ 8589934590) }
+) -> Result<u32, Refusal>
+    requires counts { (a.old.used.atoms + a.old.ghosts.atoms < 62500000) × (a.old.ghosts.bytes ≤ 8589934590) }
     requires part { (v < 67108864) × (start ≤ end) × (end ≤ len_for v) }
-    ensures { made result (store_in bytes.new starts.new ends.new)
-        ≡ small_or (fits (slice start end (small_bytes v))) 0 a (slice start end (small_bytes v)) (store_in bytes.old starts.old ends.old) }
+    ensures { made result a.new (store_in bytes.new starts.new ends.new)
+        ≡ small_or (fits (slice start end (small_bytes v))) 0 a.old (slice start end (small_bytes v)) (store_in bytes.old starts.old ends.old) }
 {
     let mut buf = [0u8; 4];
     node::put_be(&mut buf, v as u64, 4);
@@ -115,24 +87,34 @@ fn part_of_small(
     super::atom::small_or(a, bytes, starts, ends, &buf[i..j], 0)
 }
 
-// A new atom that is the part of an atom from start up to end.
+// A new atom that is the part of an atom from start up to end: 1 unsound, 3 too many atoms, then the atom and the bounds.
+#[tactic(auto, unfolding(rules::specs::Said::need, rules::specs::Creates::substr_tests))]
 pub fn new_substr(
-    a: Allocator,
+    a: &mut Allocator,
     bytes: &mut [u8],
     starts: &mut [u32],
     ends: &mut [u32],
     n: u32,
     start: u32,
     end: u32,
-) -> Made
-    ensures { made result (store_in bytes.new starts.new ends.new)
-        ≡ new_substr a n start end (store_in bytes.old starts.old ends.old) }
+) -> Result<u32, Refusal>
+    ensures { made result a.new (store_in bytes.new starts.new ends.new)
+        ≡ new_substr a.old n start end (store_in bytes.old starts.old ends.old) }
 {
-    let i = node::wide(start);
-    let j = node::wide(end);
-    let found = substr_tests(a, bytes.len(), starts, ends, n, i, j);
-    match found {
-        Atom::Refused(code, node) => super::refused(code, node, a),
+    let i = start as usize;
+    let j = end as usize;
+    need(
+        sound::bytes_sound(a, bytes.len(), starts.len(), ends.len()),
+        Code::Unsound,
+        NIL,
+    )?;
+    need(
+        a.used.atoms + a.ghosts.atoms < sound::MOST,
+        Code::TooManyAtoms,
+        NIL,
+    )?;
+    let atoms = AtomSlots { starts, ends };
+    match bounded_atom(a, atoms, n, i, j)? {
         Atom::Range(from, _) => share_range(a, starts, ends, from + i, from + j),
         Atom::Value(v) => part_of_small(a, bytes, starts, ends, v, i, j),
     }

@@ -1,11 +1,11 @@
 // The bits of a node, small atoms, and the big-endian bytes of a number.
-#![tactic(auto, unfolding(rules::specs::Reads::object_type_of))]
+#![tactic(auto, unfolding(rules::specs::Reads::object_type_of, rules::specs::Node::view, rules::specs::Node::view_of))]
 
-ghost use Rattle.std.specs.Prelude.{◌≡◌, ◌∷◌, ◌++◌, ◌≤◌, ◌<◌, length, drop};
+ghost use Rattle.std.specs.Prelude.{IfSome, ◌≡◌, ◌∷◌, ◌++◌, ◌≤◌, ◌<◌, length, drop};
 ghost use Rattle.rules.specs.Node.{view as viewed, node_of};
 ghost use Rattle.rules.proofs.Args.{Low};
 ghost use Rattle.rules.specs.Small.{big as big_of, be, fits, len_for};
-ghost use Rattle.rules.specs.Reads.{object_type, node_index, is_atom, is_pair};
+ghost use Rattle.rules.specs.Reads.{kind_number, object_type, node_index, is_atom, is_pair};
 ghost use Rattle.rules.specs.Paper.{said_in, said_by, view_paper, kind_paper, option_paper};
 
 use rules::{Code, NIL, ObjectType, Refusal, View};
@@ -49,26 +49,21 @@ pub fn view(n: u32) -> View
     ensures value { view_paper result ≡ viewed n }
     ensures low { Low (view_paper result) }
 {
-    let kind = n / INDICES;
     let index = n % INDICES;
-    if kind == 0 {
-        return View::Pair(index as usize);
+    match n / INDICES {
+        0 => View::Pair(index as usize),
+        1 => View::Bytes(index as usize),
+        2 => View::Small(index),
+        _ => View::Bad,
     }
-    if kind == 1 {
-        return View::Bytes(index as usize);
-    }
-    if kind == 2 {
-        return View::Small(index);
-    }
-    View::Bad
 }
 
 // The node of a kind with an index or a value, which the caller keeps within the bits they have.
-pub fn new(kind: u32, index: u32) -> u32
-    requires { (kind < 64) × (index < 67108864) }
-    ensures { result ≡ node_of kind index }
+pub fn new(kind: ObjectType, index: u32) -> u32
+    requires { index < 67108864 }
+    ensures { result ≡ node_of (kind_number (kind_paper kind)) index }
 {
-    kind * INDICES + index
+    kind as u32 * INDICES + index
 }
 
 // The kind of a node. Above 2 there is none: such a node is valid in no state.
@@ -130,7 +125,8 @@ pub fn len_for_value(v: u32) -> usize
 // Whether bytes are the shortest form of a number of 26 bits, and that number. A first byte from 0x80 on is a minus sign; a first 00 is
 // allowed only where the next byte would else be one.
 pub fn fits_in_small_atom(v: &[u8]) -> Option<u32>
-    ensures { option_paper result ≡ fits v.now }
+    ensures value { option_paper result ≡ fits v.now }
+    ensures low { IfSome result (λ x. x < 67108864) }
 {
     let n = v.len();
     if n == 0 {

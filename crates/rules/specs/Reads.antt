@@ -16,6 +16,12 @@ pub data Kind : Type 0 where
   bytes_kind : Kind
   small_kind : Kind
 
+-- the kinds, as a node's top bits number them
+abbrev pub kind_number : Kind → ℕ
+kind_number pair_kind = 0
+kind_number bytes_kind = 1
+kind_number small_kind = 2
+
 unfoldable pub object_type_of : Node → Said Kind
 object_type_of (pair_at i) = says pair_kind
 object_type_of (bytes_at i) = says bytes_kind

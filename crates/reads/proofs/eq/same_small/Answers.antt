@@ -5,4 +5,4 @@ use Rattle.reads.proofs.eq.same_small.Goals as goal
 
 pub returns : goal.returns
 returns c =
-    c.eq.ensures ∙ sym (same-found c.args.v c.fits_in_small_atom.result c.args.x.now c.requires (λ i. omega (arith, c.type_inv.x i)) c.fits_in_small_atom.ensures)
+    c.eq.ensures ∙ sym (same-found c.args.v c.fits_in_small_atom.result c.args.x.now c.requires (λ i. omega (arith, c.type_inv.x i)) c.fits_in_small_atom.ensures.value)
