@@ -5,12 +5,12 @@ use Rattle.std.proofs.Math.Option.{Option, none, some}
 use Rattle.rules.specs.Node.{nil}
 use Rattle.rules.specs.Small.{len_for}
 use Rattle.rules.specs.Said.{Said, says, refuses, Done, done, NoLists, no_lists, Out}
-use Rattle.rules.specs.Reads.{Kind, pair_kind, bytes_kind, small_kind, Atom, range, value, Visited, buffer, number, children, Sexp, atomic, branch, Status, before, after_new_bytes, after_old_bytes}
+use Rattle.rules.specs.Reads.{Atom, range, value, Visited, buffer, number, children, Sexp, atomic, branch, Status, before, after_new_bytes, after_old_bytes}
 use Rattle.rules.specs.State.{Lists}
 use Rattle.rules.specs.Load.{Reading}
 use Rattle.rules.specs.Save.{Saving}
 use Rattle.rules.specs.Restores.{Restoring, no_replace, replace, aborted}
-use Rattle.words.specs.Words.{record_words}
+use Rattle.rules.specs.declared.Allocator.{Allocator}
 use Rattle.clvm_allocator.specs.declared.answers.CNumber.{CNumber}
 use Rattle.clvm_allocator.specs.declared.answers.COption.{COption}
 use Rattle.clvm_allocator.specs.declared.answers.CVisited.{CVisited}
@@ -25,12 +25,6 @@ use Rattle.clvm_allocator.specs.declared.answers.CLoaded.{CLoaded}
 abbrev pub bit : Bool → ℕ
 bit true = 1
 bit false = 0
-
--- the kinds, as a node's top bits number them
-abbrev pub kind_number : Kind → ℕ
-kind_number pair_kind = 0
-kind_number bytes_kind = 1
-kind_number small_kind = 2
 
 -- a number
 abbrev pub number_c : Said ℕ → CNumber
@@ -99,28 +93,28 @@ restored_c (says (replace n)) = went n 1
 restored_c (says aborted) = went nil 2
 restored_c (refuses code node) = record { code = code; node = node; outcome = 0 }
 
--- all that a call gives: its answer, what else it was lent for writing (a record's words, a checkpoint's, a file), and the lists, as it leaves them
-pub record Given (R L : Type 0) : Type 0 where
+-- all that a call gives: its answer, what else it was lent for writing (the record, a checkpoint, a file), and the lists, as it leaves them
+pub record Given (R W L : Type 0) : Type 0 where
   pub answer : R
-  pub written : List ℕ
+  pub written : W
   pub lent : L
 
-abbrev pub given : {R L : Type 0} → R → List ℕ → L → Given R L
-given r written s = record { answer = r; written = written; lent = s }
+abbrev pub given : {R W L : Type 0} → R → W → L → Given R W L
+given r w s = record { answer = r; written = w; lent = s }
 
--- a call that may change the record: its answer as numbers, and the record in words
-abbrev pub crossed : {A R L : Type 0} → (Said A → R) → Out A L → Given R L
-crossed f o = given (f o.said) (record_words o.rec) o.lent
+-- a call that may change the record: its answer as numbers, and the record
+abbrev pub crossed : {A R L : Type 0} → (Said A → R) → Out A L → Given R Allocator L
+crossed f o = given (f o.said) o.rec o.lent
 
--- a load: its answer and place, the record in words, and all five lists
-abbrev pub read_c : Reading → Given CLoaded Lists
-read_c r = given (loaded_c r.said r.at) (record_words r.rec) r.lists
+-- a load: its answer and place, the record, and all five lists
+abbrev pub read_c : Reading → Given CLoaded Allocator Lists
+read_c r = given (loaded_c r.said r.at) r.rec r.lists
 
 -- a save: the length, and the slice that was lent for the file
-abbrev pub written_c : Saving → Given CNumber NoLists
+abbrev pub written_c : Saving → Given CNumber (List ℕ) NoLists
 written_c r = given (number_c r.said) r.file no_lists
 
--- a call that takes a checkpoint: a refusal leaves the checkpoint's words as they were
-abbrev pub taken_c : {K : Type 0} → (K → List ℕ) → List ℕ → Said K → Given CAnswer NoLists
-taken_c words old (says k) = given (done_c (says done)) (words k) no_lists
-taken_c words old (refuses code node) = given (done_c (refuses code node)) old no_lists
+-- a call that takes a checkpoint: a refusal leaves the checkpoint as it was
+abbrev pub taken_c : {K : Type 0} → K → Said K → Given CAnswer K NoLists
+taken_c old (says k) = given (done_c (says done)) k no_lists
+taken_c old (refuses code node) = given (done_c (refuses code node)) old no_lists

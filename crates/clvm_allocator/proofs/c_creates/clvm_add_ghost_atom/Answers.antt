@@ -1,8 +1,0 @@
--- `clvm_allocator::c_creates::clvm_add_ghost_atom` meets its contract: what the call beneath promises, as numbers.
-use Rattle.clvm_allocator.specs.Answers.{done_c}
-use Rattle.clvm_allocator.proofs.Crossed.{crossed_by}
-use Rattle.clvm_allocator.proofs.c_creates.clvm_add_ghost_atom.Goals as goal
-
-pub returns : goal.returns
-returns c =
-    crossed_by done_c _ _ c.of_verdict.ensures c.of_record.ensures (rw c.record.ensures at c.add_ghost_atom-changed.ensures)

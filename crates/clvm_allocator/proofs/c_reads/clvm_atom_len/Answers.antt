@@ -1,8 +1,0 @@
--- `clvm_allocator::c_reads::clvm_atom_len` meets its contract: what the call beneath promises, as numbers.
-use mathlib.Core.Path.{ap, ◌∙◌}
-use Rattle.clvm_allocator.specs.Answers.{number_c}
-use Rattle.clvm_allocator.proofs.c_reads.clvm_atom_len.Goals as goal
-
-pub returns : goal.returns
-returns c =
-    c.of_number.ensures ∙ ap number_c (rw c.record.ensures at c.atom_len-found.ensures)

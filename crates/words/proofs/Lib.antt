@@ -1,2 +1,0 @@
--- The law of calls on words.
-pub mod InWords
