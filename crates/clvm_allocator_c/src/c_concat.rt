@@ -3,14 +3,13 @@ ghost use Rattle.std.specs.Prelude.{◌≡◌};
 ghost use Rattle.rules.specs.Lent.{store_in};
 ghost use Rattle.rules.specs.Creates.{new_concat};
 ghost use Rattle.clvm_allocator.specs.Answers.{given, crossed, answer_c};
-ghost use Rattle.words.specs.Words.{record_in};
 
 use clvm_allocator::answers::CAnswer;
-use words::RecordWords;
+use rules::Allocator;
 
 #[unsafe(no_mangle)]
 pub extern "C" fn clvm_new_concat(
-    a: &mut RecordWords,
+    a: &mut Allocator,
     bytes: &mut [u8],
     starts: &mut [u32],
     ends: &mut [u32],
@@ -18,7 +17,7 @@ pub extern "C" fn clvm_new_concat(
     nodes: &[u32],
 ) -> CAnswer
     ensures { given result a.new (store_in bytes.new starts.new ends.new)
-        ≡ crossed answer_c (new_concat (record_in a.old) new_size nodes.now (store_in bytes.old starts.old ends.old)) }
+        ≡ crossed answer_c (new_concat a.old new_size nodes.now (store_in bytes.old starts.old ends.old)) }
 {
     clvm_allocator::c_concat::clvm_new_concat(a, bytes, starts, ends, new_size, nodes)
 }

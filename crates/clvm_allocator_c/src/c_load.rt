@@ -3,14 +3,13 @@ ghost use Rattle.std.specs.Prelude.{◌≡◌};
 ghost use Rattle.rules.specs.Lent.{lists_in};
 ghost use Rattle.rules.specs.Load.{load as load_rule};
 ghost use Rattle.clvm_allocator.specs.Answers.{given, read_c};
-ghost use Rattle.words.specs.Words.{record_in};
 
 use clvm_allocator::answers::CLoaded;
-use words::RecordWords;
+use rules::Allocator;
 
 #[unsafe(no_mangle)]
 pub extern "C" fn clvm_load(
-    a: &mut RecordWords,
+    a: &mut Allocator,
     bytes: &mut [u8],
     starts: &mut [u32],
     ends: &mut [u32],
@@ -19,7 +18,7 @@ pub extern "C" fn clvm_load(
     file: &[u8],
 ) -> CLoaded
     ensures { given result a.new (lists_in bytes.new starts.new ends.new firsts.new rests.new)
-        ≡ read_c (load_rule file.now (record_in a.old)
+        ≡ read_c (load_rule file.now a.old
         (lists_in bytes.old starts.old ends.old firsts.old rests.old)) }
 {
     clvm_allocator::c_load::clvm_load(a, bytes, starts, ends, firsts, rests, file)

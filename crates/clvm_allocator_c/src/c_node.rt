@@ -2,8 +2,8 @@
 ghost use Rattle.std.specs.Prelude.{◌≡◌};
 ghost use Rattle.rules.specs.Small.{fits, len_for};
 ghost use Rattle.rules.specs.Said.{says, says_of};
-ghost use Rattle.rules.specs.Reads.{object_type, node_index, is_atom, is_pair};
-ghost use Rattle.clvm_allocator.specs.Answers.{bit, kind_number, number_c, option_c};
+ghost use Rattle.rules.specs.Reads.{kind_number, object_type, node_index, is_atom, is_pair};
+ghost use Rattle.clvm_allocator.specs.Answers.{bit, number_c, option_c};
 
 use clvm_allocator::answers::{CNumber, COption};
 

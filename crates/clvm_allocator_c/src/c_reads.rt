@@ -5,14 +5,13 @@ ghost use Rattle.rules.specs.Lent.{atom_slots_in, pair_slots_in};
 ghost use Rattle.rules.specs.Reads.{scratch_after, atom_len, small_number, atom_eq, node as node_rule, sexp as sexp_rule, node_status};
 ghost use Rattle.clvm_allocator.specs.Answers.{bit, number_c, option_c, visited_c, children_c, part_c, status_c};
 ghost use Rattle.reads.specs.Parts.{atom_lent};
-ghost use Rattle.words.specs.Words.{record_in, counts_in};
 
 use clvm_allocator::answers::{CChildren, CNumber, COption, CPart, CStatus, CVisited};
-use words::{CountsWords, RecordWords};
+use rules::{Counts, Allocator};
 
 #[unsafe(no_mangle)]
 pub extern "C" fn clvm_node(
-    a: &RecordWords,
+    a: &Allocator,
     starts: &[u32],
     ends: &[u32],
     firsts: &[u32],
@@ -20,65 +19,65 @@ pub extern "C" fn clvm_node(
     n: u32,
 ) -> CVisited
     ensures { result
-        ≡ visited_c (node_rule (record_in a.now) (atom_slots_in starts.now ends.now) (pair_slots_in firsts.now rests.now) n) }
+        ≡ visited_c (node_rule a.now (atom_slots_in starts.now ends.now) (pair_slots_in firsts.now rests.now) n) }
 {
     clvm_allocator::c_reads::clvm_node(a, starts, ends, firsts, rests, n)
 }
 
 #[unsafe(no_mangle)]
-pub extern "C" fn clvm_sexp(a: &RecordWords, firsts: &[u32], rests: &[u32], n: u32) -> CChildren
-    ensures { result ≡ children_c (sexp_rule (record_in a.now) (pair_slots_in firsts.now rests.now) n) }
+pub extern "C" fn clvm_sexp(a: &Allocator, firsts: &[u32], rests: &[u32], n: u32) -> CChildren
+    ensures { result ≡ children_c (sexp_rule a.now (pair_slots_in firsts.now rests.now) n) }
 {
     clvm_allocator::c_reads::clvm_sexp(a, firsts, rests, n)
 }
 
 #[unsafe(no_mangle)]
-pub extern "C" fn clvm_next(a: &RecordWords, firsts: &[u32], rests: &[u32], n: u32) -> CChildren
-    ensures { result ≡ children_c (sexp_rule (record_in a.now) (pair_slots_in firsts.now rests.now) n) }
+pub extern "C" fn clvm_next(a: &Allocator, firsts: &[u32], rests: &[u32], n: u32) -> CChildren
+    ensures { result ≡ children_c (sexp_rule a.now (pair_slots_in firsts.now rests.now) n) }
 {
     clvm_allocator::c_reads::clvm_next(a, firsts, rests, n)
 }
 
 #[unsafe(no_mangle)]
 pub extern "C" fn clvm_atom(
-    a: &RecordWords,
+    a: &Allocator,
     bytes: &[u8],
     starts: &[u32],
     ends: &[u32],
     scratch: &mut [u8],
     n: u32,
 ) -> CPart
-    ensures answer { result ≡ part_c (atom_lent (record_in a.now) bytes.now starts.now ends.now scratch.old n) }
+    ensures answer { result ≡ part_c (atom_lent a.now bytes.now (atom_slots_in starts.now ends.now) scratch.old n) }
     ensures scratch { scratch.new
-        ≡ scratch_after (atom_lent (record_in a.now) bytes.now starts.now ends.now scratch.old n) scratch.old }
+        ≡ scratch_after (atom_lent a.now bytes.now (atom_slots_in starts.now ends.now) scratch.old n) scratch.old }
 {
     clvm_allocator::c_reads::clvm_atom(a, bytes, starts, ends, scratch, n)
 }
 
 #[unsafe(no_mangle)]
-pub extern "C" fn clvm_atom_len(a: &RecordWords, starts: &[u32], ends: &[u32], n: u32) -> CNumber
-    ensures { result ≡ number_c (atom_len (record_in a.now) (atom_slots_in starts.now ends.now) n) }
+pub extern "C" fn clvm_atom_len(a: &Allocator, starts: &[u32], ends: &[u32], n: u32) -> CNumber
+    ensures { result ≡ number_c (atom_len a.now (atom_slots_in starts.now ends.now) n) }
 {
     clvm_allocator::c_reads::clvm_atom_len(a, starts, ends, n)
 }
 
 #[unsafe(no_mangle)]
 pub extern "C" fn clvm_small_number(
-    a: &RecordWords,
+    a: &Allocator,
     bytes: &[u8],
     starts: &[u32],
     ends: &[u32],
     n: u32,
 ) -> COption
     ensures { result
-        ≡ option_c (small_number (record_in a.now) bytes.now (atom_slots_in starts.now ends.now) n) }
+        ≡ option_c (small_number a.now bytes.now (atom_slots_in starts.now ends.now) n) }
 {
     clvm_allocator::c_reads::clvm_small_number(a, bytes, starts, ends, n)
 }
 
 #[unsafe(no_mangle)]
 pub extern "C" fn clvm_atom_eq(
-    a: &RecordWords,
+    a: &Allocator,
     bytes: &[u8],
     starts: &[u32],
     ends: &[u32],
@@ -86,21 +85,21 @@ pub extern "C" fn clvm_atom_eq(
     rhs: u32,
 ) -> CNumber
     ensures { result
-        ≡ number_c (says_of bit (atom_eq (record_in a.now) bytes.now (atom_slots_in starts.now ends.now) lhs rhs)) }
+        ≡ number_c (says_of bit (atom_eq a.now bytes.now (atom_slots_in starts.now ends.now) lhs rhs)) }
 {
     clvm_allocator::c_reads::clvm_atom_eq(a, bytes, starts, ends, lhs, rhs)
 }
 
 #[unsafe(no_mangle)]
 pub extern "C" fn clvm_checkpoint_node_status(
-    a: &RecordWords,
+    a: &Allocator,
     starts: &[u32],
     ends: &[u32],
-    k: &CountsWords,
+    k: &Counts,
     n: u32,
 ) -> CStatus
     ensures { result
-        ≡ status_c (node_status (counts_in k.now) (record_in a.now) (atom_slots_in starts.now ends.now) n) }
+        ≡ status_c (node_status k.now a.now (atom_slots_in starts.now ends.now) n) }
 {
     clvm_allocator::c_reads::clvm_checkpoint_node_status(a, starts, ends, k, n)
 }

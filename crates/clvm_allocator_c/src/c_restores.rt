@@ -4,37 +4,36 @@ ghost use Rattle.rules.specs.Said.{no_lists};
 ghost use Rattle.rules.specs.Lent.{store_in, pair_store_in, slots_in};
 ghost use Rattle.rules.specs.Restores.{restore_plain, restore_transparent, maybe_restore};
 ghost use Rattle.clvm_allocator.specs.Answers.{given, crossed, done_c, restored_c};
-ghost use Rattle.words.specs.Words.{record_in, plain_in, counts_in};
 
 use clvm_allocator::answers::{CAnswer, CRestored};
-use words::{CheckpointWords, CountsWords, RecordWords};
+use rules::{Checkpoint, Counts, Allocator};
 
 #[unsafe(no_mangle)]
 pub extern "C" fn clvm_restore_checkpoint(
-    a: &mut RecordWords,
+    a: &mut Allocator,
     starts: &[u32],
     ends: &[u32],
     firsts: &[u32],
     rests: &[u32],
-    k: &CheckpointWords,
+    k: &Checkpoint,
 ) -> CAnswer
     ensures { given result a.new no_lists
-        ≡ crossed done_c (restore_plain (plain_in k.now) (record_in a.old) (slots_in starts.now ends.now firsts.now rests.now)) }
+        ≡ crossed done_c (restore_plain k.now a.old (slots_in starts.now ends.now firsts.now rests.now)) }
 {
     clvm_allocator::c_restores::clvm_restore_checkpoint(a, starts, ends, firsts, rests, k)
 }
 
 #[unsafe(no_mangle)]
 pub extern "C" fn clvm_restore_transparent_checkpoint(
-    a: &mut RecordWords,
+    a: &mut Allocator,
     starts: &[u32],
     ends: &[u32],
     firsts: &[u32],
     rests: &[u32],
-    k: &CountsWords,
+    k: &Counts,
 ) -> CAnswer
     ensures { given result a.new no_lists
-        ≡ crossed done_c (restore_transparent (counts_in k.now) (record_in a.old)
+        ≡ crossed done_c (restore_transparent k.now a.old
         (slots_in starts.now ends.now firsts.now rests.now)) }
 {
     clvm_allocator::c_restores::clvm_restore_transparent_checkpoint(
@@ -44,17 +43,17 @@ pub extern "C" fn clvm_restore_transparent_checkpoint(
 
 #[unsafe(no_mangle)]
 pub extern "C" fn clvm_maybe_restore_with_node(
-    a: &mut RecordWords,
+    a: &mut Allocator,
     bytes: &mut [u8],
     starts: &mut [u32],
     ends: &mut [u32],
     firsts: &[u32],
     rests: &[u32],
-    k: &CountsWords,
+    k: &Counts,
     n: u32,
 ) -> CRestored
     ensures { given result a.new (store_in bytes.new starts.new ends.new)
-        ≡ crossed restored_c (maybe_restore (counts_in k.now) n (record_in a.old) (store_in bytes.old starts.old ends.old)
+        ≡ crossed restored_c (maybe_restore k.now n a.old (store_in bytes.old starts.old ends.old)
         (pair_store_in firsts.now rests.now)) }
 {
     clvm_allocator::c_restores::clvm_maybe_restore_with_node(
