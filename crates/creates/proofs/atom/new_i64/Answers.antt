@@ -6,8 +6,8 @@ use Rattle.creates.proofs.atom.new_i64.Goals as goal
 
 pub slice_bounds-new_atom-end : goal.slice_bounds-new_atom-end
 slice_bounds-new_atom-end c =
-    written-length _ _ _ _ c.write_i64-n.ensures
+    written-length _ _ _ _ c.write-n.ensures
 
 pub returns : goal.returns
 returns c =
-    simp (to_z-of_z w64 c.args.x c.ranges.x, c.new_atom.ensures, written-part _ _ _ _ c.write_i64-n.ensures)
+    simp (to_z-of_z w64 c.args.x c.ranges.x, c.new_atom.ensures, written-part _ _ _ _ c.write-n.ensures)

@@ -4,8 +4,8 @@ use Rattle.creates.proofs.atom.new_u64.Goals as goal
 
 pub slice_bounds-new_atom-end : goal.slice_bounds-new_atom-end
 slice_bounds-new_atom-end c =
-    written-length _ _ _ _ c.write_u64-n.ensures
+    written-length _ _ _ _ c.write-n.ensures
 
 pub returns : goal.returns
 returns c =
-    simp (c.new_atom.ensures, written-part _ _ _ _ c.write_u64-n.ensures)
+    simp (c.new_atom.ensures, written-part _ _ _ _ c.write-n.ensures)
