@@ -47,7 +47,7 @@ pub fn clvm_new_u64(
         ≡ crossed answer_c (new_u64 (record_in a.old) x (store_in bytes.old starts.old ends.old)) }
 {
     let mut buf = [0u8; 9];
-    let n = integer::write(&mut buf, x);
+    let n = integer::write::<u64>(&mut buf, x);
     clvm_new_atom(a, bytes, starts, ends, &buf[..n])
 }
 
@@ -62,7 +62,7 @@ pub fn clvm_new_i64(
         ≡ crossed answer_c (new_i64 (record_in a.old) x (store_in bytes.old starts.old ends.old)) }
 {
     let mut buf = [0u8; 9];
-    let n = integer::write(&mut buf, x);
+    let n = integer::write::<i64>(&mut buf, x);
     clvm_new_atom(a, bytes, starts, ends, &buf[..n])
 }
 

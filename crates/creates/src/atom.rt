@@ -153,7 +153,7 @@ pub fn new_u64(a: Allocator, bytes: &mut [u8], starts: &mut [u32], ends: &mut [u
         ≡ new_u64 a x (store_in bytes.old starts.old ends.old) }
 {
     let mut buf = [0u8; 9];
-    let n = integer::write(&mut buf, x);
+    let n = integer::write::<u64>(&mut buf, x);
     new_atom(a, bytes, starts, ends, &buf[..n])
 }
 
@@ -163,6 +163,6 @@ pub fn new_i64(a: Allocator, bytes: &mut [u8], starts: &mut [u32], ends: &mut [u
         ≡ new_i64 a x (store_in bytes.old starts.old ends.old) }
 {
     let mut buf = [0u8; 9];
-    let n = integer::write(&mut buf, x);
+    let n = integer::write::<i64>(&mut buf, x);
     new_atom(a, bytes, starts, ends, &buf[..n])
 }
