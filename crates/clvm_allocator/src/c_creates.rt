@@ -39,7 +39,7 @@ pub fn clvm_new_u64(
     ensures { given result a.new (store_in bytes.new starts.new ends.new)
         ≡ crossed answer_c (new_u64 a.old x (store_in bytes.old starts.old ends.old)) }
 {
-    atom::new_u64(a, bytes, starts, ends, x).into()
+    atom::new_integer(a, bytes, starts, ends, x).into()
 }
 
 pub fn clvm_new_i64(
@@ -52,7 +52,7 @@ pub fn clvm_new_i64(
     ensures { given result a.new (store_in bytes.new starts.new ends.new)
         ≡ crossed answer_c (new_i64 a.old x (store_in bytes.old starts.old ends.old)) }
 {
-    atom::new_i64(a, bytes, starts, ends, x).into()
+    atom::new_integer(a, bytes, starts, ends, x).into()
 }
 
 pub fn clvm_new_pair(

@@ -6,10 +6,11 @@ ghost use Rattle.std.specs.Bool.{OnTrue};
 ghost use Rattle.rules.specs.Small.{fits};
 ghost use Rattle.rules.specs.Said.{no_lists};
 ghost use Rattle.rules.specs.Lent.{store_in};
-ghost use Rattle.rules.specs.Creates.{limit_tests, store_room_at, store_atom, small_or, new_atom, new_small_number, new_u64, new_i64};
+ghost use Rattle.rules.specs.Creates.{limit_tests, store_room_at, store_atom, small_or, new_atom, new_small_number, new_i64};
 ghost use Rattle.rules.specs.Paper.{verdict_paper, made};
 ghost use Rattle.rules.proofs.Limits.{Limits};
 
+use integer::Integer;
 use rules::{Allocator, Code, NIL, ObjectType, Refusal, need};
 use state::{record, sound};
 
@@ -131,34 +132,18 @@ pub fn new_small_number(a: &mut Allocator, v: u32) -> Result<u32, Refusal>
     Ok(node::new(ObjectType::SmallAtom, v))
 }
 
-// A new atom of an unsigned number: its shortest bytes in two's complement.
-pub fn new_u64(
+// A new atom of an integer: its shortest bytes in two's complement. new_u64 and new_i64 are this, of the two types.
+pub fn new_integer<T: Integer>(
     a: &mut Allocator,
     bytes: &mut [u8],
     starts: &mut [u32],
     ends: &mut [u32],
-    x: u64,
+    x: T,
 ) -> Result<u32, Refusal>
     ensures { made result a.new (store_in bytes.new starts.new ends.new)
-        ≡ new_u64 a.old x (store_in bytes.old starts.old ends.old) }
+        ≡ new_i64 a.old (T.value x) (store_in bytes.old starts.old ends.old) }
 {
     let mut buf = [0u8; 9];
-    let n = integer::write_u64(&mut buf, x);
-    new_atom(a, bytes, starts, ends, &buf[..n])
-}
-
-// A new atom of a signed number: its shortest bytes in two's complement.
-pub fn new_i64(
-    a: &mut Allocator,
-    bytes: &mut [u8],
-    starts: &mut [u32],
-    ends: &mut [u32],
-    x: i64,
-) -> Result<u32, Refusal>
-    ensures { made result a.new (store_in bytes.new starts.new ends.new)
-        ≡ new_i64 a.old x (store_in bytes.old starts.old ends.old) }
-{
-    let mut buf = [0u8; 9];
-    let n = integer::write_i64(&mut buf, x);
+    let n = integer::write(&mut buf, x);
     new_atom(a, bytes, starts, ends, &buf[..n])
 }

@@ -1,7 +1,6 @@
 -- Laws of integers as bytes.
-pub mod Table
-pub mod Signs
 pub mod Bytes
-pub mod Count
+pub mod Counts
+pub mod Thresholds
 pub mod Shortest
-pub mod Writes
+pub mod Words

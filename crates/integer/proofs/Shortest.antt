@@ -17,7 +17,7 @@ use Rattle.rules.proofs.Tests.{choice}
 use Rattle.rules.proofs.Smalls.{length-be, be-octets, be-value}
 use Rattle.rules.proofs.Bytes.{pos256, big_lt}
 use Rattle.integer.proofs.Bytes.{same-big}
-use Rattle.integer.proofs.Count.{count_holds, count-least, count_neg, count_zero}
+use Rattle.integer.proofs.Counts.{count_holds, count-least, count_neg, count_zero}
 
 -- ---- a number below the range, and what it means
 

@@ -1,3 +1,3 @@
 -- What the contracts of the integer writers say.
-pub mod Halves
+pub mod Word
 pub mod Written

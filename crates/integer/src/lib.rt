@@ -1,12 +1,11 @@
-// The shortest big-endian two's complement bytes of a u64 and of an i64.
+// The shortest big-endian two's complement bytes of an integer of 64 bits, signed or not.
 #![tactic(auto)]
 
-ghost use Rattle.std.specs.Prelude.{◌≡◌, ◌^◌, ◌≤◌, ◌<◌, ltb, pos, length};
+ghost use Rattle.std.specs.Prelude.{◌≡◌, ◌≤◌, ℤ, pos, length};
 ghost use Rattle.std.specs.Int.Signed.{mag};
-ghost use Rattle.std.specs.Int.{w64};
-ghost use Rattle.std.proofs.Common.{of_z};
-ghost use Rattle.rules.specs.Integer.{count_of};
-ghost use Rattle.integer.specs.Halves.{IsHalf};
+ghost use Rattle.std.specs.Int.{w64, cast_unsigned, is_negative};
+ghost use Rattle.rules.specs.Integer.{count_from, count_of};
+ghost use Rattle.integer.specs.Word.{IsWord};
 ghost use Rattle.integer.specs.Written.{Written};
 
 // 2^7, 2^15 to 2^63: half of each power of 256.
@@ -21,89 +20,81 @@ const THRESHOLDS: [u64; 8] = [
     9223372036854775808,
 ];
 
-// The entry at k: the only reader of the table, so that its rule is proved once.
-fn threshold(k: usize) -> u64
-    requires { k < 8 }
-    ensures { IsHalf k result }
-{
-    THRESHOLDS[k]
+// An integer of 64 bits.
+pub trait Integer: Copy {
+    // The number that it is.
+    ghost value: { Self → ℤ };
+
+    // Whether it is below zero.
+    fn below_zero(self) -> bool
+        ensures { result ≡ is_negative (value self) };
+
+    // Its 64 bits, in two's complement.
+    fn bits(self) -> u64
+        ensures fits { IsWord (value self) }
+        ensures value { result ≡ cast_unsigned w64 (value self) };
 }
 
-// How many bytes x takes, by a walk of the table; from 2^63 on a ninth keeps the sign bit clear.
-pub fn count_u64(x: u64) -> usize
-    ensures { result ≡ count_of (pos x) }
-{
-    if x == 0 {
-        return 0;
+impl Integer for u64 {
+    ghost value = { pos };
+
+    fn below_zero(self) -> bool {
+        false
     }
-    let mut k: usize = 0;
-    while k < 8 {
-        if x < threshold(k) {
-            return k + 1;
-        }
-        k += 1;
+
+    fn bits(self) -> u64 {
+        self
     }
-    9
 }
 
-// Whether -t <= x < t, by signed comparison. 2^63 does not fit an i64, so both ends are made of t - 1.
-fn within(x: i64, t: u64) -> bool
-    requires { (1 ≤ t) × (t ≤ 2 ^ 63) }
-    ensures { result ≡ ltb (mag x) t }
-{
-    let top = (t - 1) as i64;
-    if x < -1 - top {
-        return false;
+impl Integer for i64 {
+    ghost value = { λ x. x };
+
+    fn below_zero(self) -> bool {
+        self < 0
     }
-    x <= top
+
+    fn bits(self) -> u64 {
+        self.cast_unsigned()
+    }
 }
 
-// How many bytes x takes, by signed comparison with the table and its mirror; an i64 takes 8 at most.
-pub fn count_i64(x: i64) -> usize
-    ensures { result ≡ count_of x }
+// The number, or below zero its mirror, -1 less the number, which takes as many bytes.
+fn magnitude<T: Integer>(x: T) -> u64
+    ensures { result ≡ mag (T.value x) }
 {
-    if x == 0 {
-        return 0;
-    }
-    let mut k: usize = 0;
-    while k < 7 {
-        if within(x, threshold(k)) {
-            return k + 1;
-        }
-        k += 1;
-    }
-    8
-}
-
-// The 64 bits of x, as a number. A cast of a negative number is refused, so its mirror is cast.
-fn bits_i64(x: i64) -> u64
-    ensures { result ≡ of_z w64 x }
-{
-    if x < 0 {
-        let m = (-1 - x) as u64;
-        18446744073709551615 - m
+    let bits = x.bits();
+    if x.below_zero() {
+        u64::MAX - bits
     } else {
-        x as u64
+        bits
     }
 }
 
-// Writes x to the front of buf, and answers how many bytes it took; zero takes none.
-pub fn write_u64(buf: &mut [u8], x: u64) -> usize
-    requires { 9 ≤ length buf.old }
-    ensures { Written (pos x) result buf.old buf.new }
+// How many bytes keep the sign bit clear of a magnitude: one for each threshold that it reaches, and one.
+fn width(m: u64) -> usize
+    ensures { result ≡ count_from 8 1 m }
 {
-    let n = count_u64(x);
-    node::put_be(buf, x, n);
-    n
+    THRESHOLDS.iter().position(|t| m < *t).unwrap_or(8) + 1
 }
 
-// The same for a signed number, whose low bytes are those of its 64 bits.
-pub fn write_i64(buf: &mut [u8], x: i64) -> usize
-    requires { 9 ≤ length buf.old }
-    ensures { Written x result buf.old buf.new }
+// How many bytes x takes: none if it is zero.
+pub fn count<T: Integer>(x: T) -> usize
+    ensures { result ≡ count_of (T.value x) }
 {
-    let n = count_i64(x);
-    let v = bits_i64(x);
-    node::put_be(buf, v, n);
+    if x.bits() == 0 {
+        0
+    } else {
+        width(magnitude(x))
+    }
+}
+
+// Writes x to the front of buf, and answers how many bytes it took.
+pub fn write<T: Integer>(buf: &mut [u8], x: T) -> usize
+    requires { 9 ≤ length buf.old }
+    ensures { Written (T.value x) result buf.old buf.new }
+{
+    let n = count(x);
+    node::put_be(buf, x.bits(), n);
     n
 }

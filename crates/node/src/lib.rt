@@ -28,10 +28,8 @@ pub fn read_be(first: u64, more: &[u8]) -> u64
     ensures { result ≡ big_of (first ∷ more.now) }
 {
     let mut n = first;
-    let mut i = 0;
-    while i < more.len() {
-        n = n * 256 + more[i] as u64;
-        i += 1;
+    for b in more {
+        n = n * 256 + u64::from(*b);
     }
     n
 }
@@ -163,10 +161,8 @@ pub fn put_be(buf: &mut [u8], v: u64, n: usize)
     ensures { buf.new ≡ be n v ++ drop n buf.old }
 {
     let mut rest = v;
-    let mut i = n;
-    while 0 < i {
-        i -= 1;
+    for i in (0..n).rev() {
         buf[i] = (rest % 256) as u8;
-        rest = rest / 256;
+        rest /= 256;
     }
 }

@@ -1,14 +1,7 @@
--- `node::read_be` meets its contract: the digits read so far, put before the rest, write the same number. Assumes nothing.
-use Prim.Native.Nat.{◌+◌, ◌*◌, ◌-◌, ◌^◌, ◌≤◌, ◌<◌}
-use mathlib.Core.Path.{◌≡◌}
-use mathlib.Core.List.{◌∷◌}
-use lib.ListN.{length, drop}
+-- `node::read_be` meets its contract: n is what the first digit and the bytes so far write. Assumes nothing.
+use Rattle.std.proofs.Common.{◌≡◌, ◌∷◌, take}
 use Rattle.rules.specs.Small.{big}
 use Rattle.node.proofs.read_be.Given as goal
 
-abbrev pub invariant-loop-i : goal.invariant-loop-i
-invariant-loop-i l =
-    (l.i ≤ length l.more) × (l.n < 256 ^ (l.i + 1)) × (l.n * 256 ^ length (drop l.i l.more) + big (drop l.i l.more) ≡ big (l.first ∷ l.more))
-
-abbrev pub decreases-loop-i : goal.decreases-loop-i
-decreases-loop-i l = length l.more - l.i
+abbrev pub invariant-loop-b : goal.invariant-loop-b
+invariant-loop-b l = l.n ≡ big (l.first ∷ take l.b-index l.more)

@@ -1,23 +1,18 @@
--- `extra_for` meets its contract. The loop's invariant: none of the first k bounds is above the number. Assumes nothing.
-use mathlib.Core.Path.{◌≡◌, refl}
-use native.Mathlib.Omega.{arith}
-use Rattle.rules.specs.Serial.{limit_of}
-use Rattle.prefix.proofs.Walks.{walk_stop, walk_on, walk_end}
-use borrow.Author.Rules.{rules}
+-- `extra_for` meets its contract: the place of the first limit above the length. Assumes nothing.
+use Rattle.std.proofs.Common.{rules, tests, arith, ltb, ◌∙◌}
+use Rattle.std.proofs.lemmas.Iterator.{YieldsList-from_slice}
+use Rattle.std.proofs.lemmas.Iterator.Adapters.{position_from-zero}
+use Rattle.std.proofs.lemmas.Iterator.Search.{position_from_yields_List}
+use Rattle.rules.specs.Serial.{limit_of, first_below}
+use Rattle.prefix.specs.declared.Prefix.{Prefix}
 use Rattle.prefix.proofs.extra_for.Goals as goal
 
-pub loop-k-init : goal.loop-k-init
-loop-k-init c = (search rules, refl)
-
-pub returns-then-len-limit : goal.returns-then-len-limit
-returns-then-len-limit c =
-    (walk_stop limit_of c.args.len c.loop-k.k (omega arith) c.loop-k.invariant.1 (rw c.limit.ensures at c.if-len-limit.true), omega arith)
-
-pub loop-k-preserved : goal.loop-k-preserved
-loop-k-preserved c =
-    (omega arith, walk_on limit_of c.args.len c.loop-k.k (omega arith) c.loop-k.invariant.1 (rw c.limit.ensures at c.if-len-limit.false))
-
 pub returns : goal.returns
+unfolding first_below limit_of
 returns c =
-    let e : c.loop-k.k ≡ 4 = omega arith in
-    (walk_end limit_of c.args.len (rw e at c.loop-k.invariant.1), omega arith)
+    let xs = c.iter.result.rest.now in
+    let above = λ (p : Prefix). ltb c.args.len p.limit in
+    let found =
+    position_from_yields_List above _ _ c.position.result c.position.ensures.ran (YieldsList-from_slice xs cc) (λ x b q k. search (rules, tests))
+    ∙ position_from-zero above xs
+    in simp (c.unwrap_or.ensures, found, c.iter.ensures.rest) (grind arith, grind arith)

@@ -1,13 +1,12 @@
 -- Laws of the byte count: a walk that stops at the first width whose half range holds the number. Assumes nothing.
 use mathlib.Core.Path.{◌≡◌, refl, sym, ap, ◌∙◌, subst}
-use Prim.Native.Nat.{ℕ, zero, suc, ◌+◌, ◌-◌, ◌*◌, ◌^◌, ◌≤◌, ◌<◌, zero-le}
+use Prim.Native.Nat.{ℕ, zero, suc, ◌+◌, ◌*◌, ◌^◌, ◌≤◌, ◌<◌, zero-le}
 use native.Mathlib.Nat.{add-suc, suc-add, add-zero, le_refl, lt_of_not-le}
-use native.Mathlib.Numerals.{add-one}
 use native.Mathlib.Omega.{arith}
 use lib.Dec.{ltb, eqb, lit<}
 use lib.IntN.{ℤ, pos, negsuc}
 use lib.Signed.{mag}
-use borrow.Author.Tests.{lt-ltb, le-ltb, ltb-true, ltb-false, eqb-true, ne_eqb}
+use borrow.Author.Tests.{ltb-true, ltb-false, eqb-true, ne_eqb}
 use Rattle.rules.specs.Integer.{count_from, count_of}
 use Rattle.rules.proofs.Tests.{choice}
 use Rattle.integer.proofs.Bytes.{mono256}
@@ -81,27 +80,3 @@ count-least z j p h = count_ind (λ n. n ≤ j) z (λ e. zero-le) (from-least 8 
 -- a negative number takes at least one
 pub count_neg : (m : ℕ) → 1 ≤ count_of (negsuc m)
 count_neg m = rw (count-some (negsuc m) (λ e. let z : ◌≡◌ {A = ℕ} 0 1 = cc in omega arith)) (from_ge 8 1 m)
-
--- ---- the walk as the loops have it: k widths were too small for z; at none it is `count-some`
-
-abbrev pub Walked : ℤ → ℕ → Type 0
-Walked z k = count_of z ≡ count_from (8 - k) (k + 1) (mag z)
-
-module _ (z : ℤ) (k : ℕ) (below : k < 8) (walked : Walked z k) where
-  turn : count_of z ≡ count_from (suc (8 - (k + 1))) (k + 1) (mag z)
-  turn = walked ∙ ap (λ (f : ℕ). count_from f (k + 1) (mag z)) (let e : 8 - k ≡ suc (8 - (k + 1)) = omega arith in e)
-
-  -- the next width holds z
-  pub walk_stop : mag z * 2 < 256 ^ (k + 1) → k + 1 ≡ count_of z
-  unfolding count_from
-  walk_stop h = sym (turn ∙ simp (lt-ltb _ _ h))
-
-  -- the next width is too small as well
-  pub walk_on : 256 ^ (k + 1) ≤ mag z * 2 → Walked z (k + 1)
-  unfolding count_from
-  walk_on h = turn ∙ simp (le-ltb _ _ h) refl ∙ ap (λ (n : ℕ). count_from (8 - (k + 1)) n (mag z)) (sym (add-one (k + 1)))
-
--- past the table's end nine bytes are left
-pub walk_end : (z : ℤ) → Walked z 8 → 9 ≡ count_of z
-unfolding count_from
-walk_end z w = sym w

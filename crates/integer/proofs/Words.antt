@@ -1,34 +1,29 @@
--- What both writers have left to show, once for both, and the low bytes of the 64 bits of a signed number. Assumes nothing.
+-- Laws of the numbers of 64 bits, and of those bits. Assumes nothing.
 use mathlib.Core.Path.{◌≡◌, refl, sym, ap, ◌∙◌}
-use mathlib.Core.List.{List, ◌++◌}
 use Prim.Native.Nat.{ℕ, zero, suc, ◌+◌, ◌-◌, ◌*◌, ◌%◌, ◌^◌, ◌≤◌, ◌<◌}
 use native.Mathlib.Nat.{mul-suc, mul-add-mod_self_left, mod-eq_of_lt, not-suc-le-zero}
 use native.Mathlib.Omega.{arith}
 use lib.IntN.{ℤ, pos, negsuc}
-use lib.ListN.{drop}
 use lib.Pow.{pow-add}
 use lib.Signed.{mag}
-use mir.Syntax.{w64}
-use mir.Val.{SFits, of_z}
+use Rattle.std.specs.Int.{w64, cast_unsigned}
 use Rattle.rules.specs.Small.{be}
 use Rattle.rules.specs.Integer.{count_of, int_bytes}
-use Rattle.integer.specs.Written.{Written}
+use Rattle.integer.specs.Word.{IsWord}
 use Rattle.rules.proofs.Bytes.{pos256}
 use Rattle.integer.proofs.Bytes.{same-be}
-use Rattle.integer.proofs.Count.{count_le, count_holds, count-least}
-use Rattle.integer.proofs.Shortest.{length_int, shortest-bytes}
+use Rattle.integer.proofs.Counts.{count_holds, count-least}
 
--- the low n bytes of v were written, n is what z takes, and that many low bytes of v are z's
-pub written : (z : ℤ) (n v : ℕ) (old new : List ℕ) → mag z < 18446744073709551616 → n ≡ count_of z
-    → be (count_of z) v ≡ int_bytes z → new ≡ be n v ++ drop n old → Written z n old new
-written z n v old new h c b e = record {
-  count = c ∙ sym (length_int z);
-  bytes = e ∙ ap (λ (k : ℕ). be k v ++ drop n old) c ∙ ap (λ (l : List ℕ). l ++ drop n old) b;
-  shortest = shortest-bytes z h;
-  fits = rw c (count_le z);
-}
+pub word_mag : (z : ℤ) → IsWord z → mag z < 18446744073709551616
+word_mag (pos x) h = h
+word_mag (negsuc m) h = omega arith
 
--- ---- the 64 bits of a signed number
+-- only zero has no bits
+pub bits_zero : (z : ℤ) → IsWord z → cast_unsigned w64 z ≡ 0 → z ≡ pos 0
+bits_zero (pos n) h e = ap pos e
+bits_zero (negsuc m) h e = absurd (omega arith)
+
+-- ---- the low bytes of the bits
 
 -- the low part of t * q less suc m
 neg_mod : (t q m : ℕ) → m < t → zero < q → (t * q - suc m) % t ≡ t - suc m
@@ -50,8 +45,8 @@ neg_bits n m h g =
     ∙ sym (mod-eq_of_lt (let k : 256 ^ n - suc m < 256 ^ n = omega arith in k)))
 
 -- as many low bytes of the 64 bits as the number takes are the number's
-pub bits_int : (z : ℤ) → SFits w64 z → be (count_of z) (of_z w64 z) ≡ int_bytes z
-bits_int (pos x) f = refl
-bits_int (negsuc m) f =
-    neg_bits (count_of (negsuc m)) m (count-least (negsuc m) 8 (omega arith) (omega (arith, f.sfits)))
-    (count_holds (negsuc m) (omega (arith, f.sfits)))
+pub bits_int : (z : ℤ) → IsWord z → be (count_of z) (cast_unsigned w64 z) ≡ int_bytes z
+bits_int (pos x) h = refl
+bits_int (negsuc m) h =
+    neg_bits (count_of (negsuc m)) m (count-least (negsuc m) 8 (omega arith) (omega arith))
+    (count_holds (negsuc m) (omega arith))
