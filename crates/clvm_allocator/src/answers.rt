@@ -31,7 +31,7 @@ impl From<Result<usize, Refusal>> for CNumber {
                 value,
             },
             Err(Refusal { code, node }) => CNumber {
-                code: code as u32,
+                code: code.into(),
                 node,
                 value: 0,
             },
@@ -98,7 +98,7 @@ impl From<Result<Option<u32>, Refusal>> for COption {
                 value: 0,
             },
             Err(Refusal { code, node }) => COption {
-                code: code as u32,
+                code: code.into(),
                 node,
                 some: 0,
                 value: 0,
@@ -149,7 +149,7 @@ impl From<Result<NodeVisitor, Refusal>> for CVisited {
                 second: 0,
             },
             Err(Refusal { code, node }) => CVisited {
-                code: code as u32,
+                code: code.into(),
                 node,
                 kind: 0,
                 first: 0,
@@ -194,7 +194,7 @@ impl From<Result<SExp, Refusal>> for CChildren {
                 rest: 0,
             },
             Err(Refusal { code, node }) => CChildren {
-                code: code as u32,
+                code: code.into(),
                 node,
                 is_pair: 0,
                 first: 0,
@@ -242,7 +242,7 @@ impl From<Result<Atom, Refusal>> for CPart {
                 part_at(1, 4usize.saturating_sub(len), len)
             }
             Err(Refusal { code, node }) => CPart {
-                code: code as u32,
+                code: code.into(),
                 node,
                 place: 0,
                 offset: 0,
@@ -288,7 +288,7 @@ impl From<Result<NodeStatus, Refusal>> for CStatus {
             Ok(NodeStatus::AfterNewBytes) => standing(1, 0, 0),
             Ok(NodeStatus::AfterOldBytes(start, end)) => standing(2, start, end),
             Err(Refusal { code, node }) => CStatus {
-                code: code as u32,
+                code: code.into(),
                 node,
                 status: 0,
                 start: 0,
@@ -317,7 +317,7 @@ impl From<Result<u32, Refusal>> for CAnswer {
         match found {
             Ok(node) => CAnswer { code: 0, node },
             Err(Refusal { code, node }) => CAnswer {
-                code: code as u32,
+                code: code.into(),
                 node,
             },
         }
@@ -368,7 +368,7 @@ impl From<Result<MaybeRestore, Refusal>> for CRestored {
             Ok(MaybeRestore::Replace(node)) => went(node, 1),
             Ok(MaybeRestore::Aborted) => went(NIL, 2),
             Err(Refusal { code, node }) => CRestored {
-                code: code as u32,
+                code: code.into(),
                 node,
                 outcome: 0,
             },

@@ -68,6 +68,17 @@ pub enum Code {
     NoSpace = 19,
 }
 
+impl From<Code> for u32 {
+    ghost use Rattle.std.specs.Prelude.{◌≡◌};
+    ghost use Rattle.rules.specs.Paper.{code_number};
+
+    ghost from_gives = { λ code n. n ≡ code_number code };
+
+    fn from(code: Code) -> u32 {
+        code as u32
+    }
+}
+
 // The small atom 0: it stands beside a code that names no node of its own.
 pub const NIL: u32 = 134217728;
 
