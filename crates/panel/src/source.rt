@@ -42,7 +42,9 @@ impl fmt::Display for Failure {
 }
 
 // Reads to the end of the file. One that fills the buffer is too long.
-fn read_all<'b, R: Read>(from: &mut R, buf: &'b mut [u8; ROOM]) -> Result<&'b [u8], Failure> {
+fn read_all<'b, R: Read>(from: &mut R, buf: &'b mut [u8; ROOM]) -> Result<&'b [u8], Failure>
+    ensures { IfOk result (λ s. length s.now ≤ 131072) }
+{
     let mut to = &mut buf[..];
     let n = io::copy(&mut from.take(ROOM as u64), &mut to).map_err(Failure::NotRead)?;
     if n > LONGEST as u64 {
@@ -57,7 +59,9 @@ pub fn fetch<'b, R: Files, I: Read + Drop>(
     input: &mut Option<I>,
     name: &[u8],
     buf: &'b mut [u8; ROOM],
-) -> Result<&'b [u8], Failure> {
+) -> Result<&'b [u8], Failure>
+    ensures { IfOk result (λ s. length s.now ≤ 131072) }
+{
     if matches!(name, b"-") {
         let Some(mut from) = input.take() else {
             return Err(Failure::NotRead(Error::from_raw_os_error(CLOSED)));
