@@ -5,130 +5,75 @@
 
 mod depth;
 mod lines;
+mod page;
 mod program;
 mod source;
 
-ghost use Rattle.std.specs.Prelude.{◌≡◌, ◌≤◌, length};
-
-use depth::Asked;
-use outline::page;
-use outline::page::Block;
-use source::End;
-use std::io::{Error, Read, Result, Write};
+use page::Page;
+use source::Failure;
+use std::io::{Read, Result, Write};
 use std::rt::Files;
 
-// The longest file.
-const LONGEST: usize = 131072;
-
-// One byte more than the longest file, so that a longer one is seen.
-fn file_buffer() -> [u8; 131073]
-    ensures { 131073 ≡ length result }
-{
-    [0; 131073]
-}
-
-// Writes a line to standard error: the file's name, a colon and the system's reason.
-fn fail<E: Write>(err: &mut E, name: &[u8], reason: Error) -> Result<()> {
-    err.write_all(name)?;
-    writeln!(err, ": {reason}")
-}
-
-// Writes out what waits, with a word on why a file is not shown, and to standard error the system's reason.
-fn give_up<W: Write, E: Write>(
-    to: &mut W,
-    err: &mut E,
-    name: &[u8],
-    word: &[u8],
-    reason: Error,
-    out: &mut Block,
-    w: usize,
-) -> Result<()>
-    requires { w ≤ 65536 }
-{
-    let w1 = page::put(to, out, w, word)?;
-    page::flush(to, out, w1)?;
-    fail(err, name, reason)
-}
-
-// Shows the file of a name.
-fn show<R: Files, I: Read + Drop, W: Write, E: Write>(
-    rt: &R,
-    input: &mut Option<I>,
-    to: &mut W,
-    err: &mut E,
-    name: &[u8],
+// Where a run reads and writes, and what the arguments so far have come to: the depth, and whether one of them was a file.
+#[derive(Drop)]
+struct Panel<'a, R, I, W, E> {
+    rt: &'a R,
+    input: Option<I>,
+    to: Page<W>,
+    err: E,
     depth: usize,
-) -> Result<()> {
-    let mut file = file_buffer();
-    let mut out = io::large_buffer();
-    let w = lines::put_named(to, &mut out, 0, b"file ", name)?;
-    let got = source::fetch(rt, input, name, &mut file);
-    let n = got.n;
-    let end = got.end;
-    match end {
-        End::NotOpened(e) => give_up(to, err, name, b"cannot be opened\n", e, &mut out, w),
-        End::NotRead(e) => give_up(to, err, name, b"cannot be read\n", e, &mut out, w),
-        End::TooLong => {
-            let w1 = lines::put_too_long(to, &mut out, w, LONGEST)?;
-            page::flush(to, &out, w1)
+    shown: bool,
+}
+
+impl<R: Files, I: Read + Drop, W: Write, E: Write> Panel<'_, R, I, W, E> {
+    // One argument: a depth, or a file to show.
+    fn argument(&mut self, arg: &[u8]) -> Result<()> {
+        if let Some(depth) = depth::in_argument(arg) {
+            self.depth = depth;
+            return Ok(());
         }
-        End::Whole => {
-            let w1 = program::put_program(to, &file[..n], depth, &mut out, w)?;
-            page::flush(to, &out, w1)
-        }
+        self.shown = true;
+        self.show(arg)
     }
-}
 
-// What the arguments so far have come to: the depth, and whether one of them was a file.
-#[derive(Clone, Copy)]
-struct Seen {
-    depth: usize,
-    file: bool,
-}
-
-// One argument: a depth, or a file to show.
-fn argument<R: Files, I: Read + Drop, W: Write, E: Write>(
-    rt: &R,
-    input: &mut Option<I>,
-    to: &mut W,
-    err: &mut E,
-    name: &[u8],
-    seen: Seen,
-) -> Result<Seen> {
-    let asked = depth::in_argument(name);
-    match asked {
-        Asked::Depth(depth) => Ok(Seen {
-            depth,
-            file: seen.file,
-        }),
-        Asked::Nothing => {
-            show(rt, input, to, err, name, seen.depth)?;
-            Ok(Seen {
-                depth: seen.depth,
-                file: true,
-            })
+    // Shows the file of a name, and writes out what waits.
+    fn show(&mut self, name: &[u8]) -> Result<()> {
+        let mut file = [0; source::ROOM];
+        self.to.write_all(b"file ")?;
+        self.to.write_all(name)?;
+        writeln!(self.to)?;
+        match source::fetch(self.rt, &mut self.input, name, &mut file) {
+            Ok(bytes) => program::show(&mut self.to, bytes, self.depth)?,
+            Err(failure) => return self.give_up(name, failure),
         }
+        self.to.flush()
+    }
+
+    // Writes out what waits, with a word on why a file is not shown, and to standard error the file's name and the system's reason.
+    fn give_up(&mut self, name: &[u8], failure: Failure) -> Result<()> {
+        writeln!(self.to, "{failure}")?;
+        self.to.flush()?;
+        let Some(reason) = failure.reason() else {
+            return Ok(());
+        };
+        self.err.write_all(name)?;
+        writeln!(self.err, ": {reason}")
     }
 }
 
 // All arguments, and standard input where none of them is a file.
 fn main(rt: HostRuntime) -> Result<()> {
-    let mut to = rt.stdout();
-    let mut err = rt.stderr();
-    let mut input = Some(rt.reader());
-    let mut seen = Seen {
+    let mut panel = Panel {
+        rt: &rt,
+        input: Some(rt.reader()),
+        to: Page::new(rt.stdout()),
+        err: rt.stderr(),
         depth: 8,
-        file: false,
+        shown: false,
     };
-    for i in 1..usize::MAX {
-        let mut name = io::buffer();
-        let Some(k) = given::argument(&rt, i, &mut name) else {
-            break;
-        };
-        seen = argument(&rt, &mut input, &mut to, &mut err, &name[..k], seen)?;
-    }
-    if seen.file {
+    given::each_argument(&rt, |arg| panel.argument(arg))?;
+    if panel.shown {
         return Ok(());
     }
-    show(&rt, &mut input, &mut to, &mut err, b"-", seen.depth)
+    panel.show(b"-")
 }
