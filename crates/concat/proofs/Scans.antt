@@ -1,6 +1,6 @@
 -- Laws of the measuring of a concat's terms. Assumes nothing.
 use Prim.Native.Nat.{ℕ, suc, ◌+◌, ◌-◌, ◌≤◌, ◌<◌, min}
-use mathlib.Core.Path.{◌≡◌, refl, ap}
+use mathlib.Core.Path.{◌≡◌, refl, sym, ap}
 use mathlib.Core.Bool.{Bool, true, false}
 use mathlib.Core.List.{List, [], ◌∷◌, ◌++◌}
 use native.Mathlib.Decide.{dec_lt}
@@ -94,5 +94,5 @@ scan-length a s size (n ∷ ns) x k h =
     (λ y. scan-length a s size ns y k) h
 
 pub scan_size : (a : Allocator) (s : Store) (size : ℕ) (ns : List ℕ) → a.used.bytes ≤ length s.bytes
-    → scan a s.atoms size ns 0 ≡ says done → length (joined a s ns) ≡ size
-scan_size a s size ns k h = omega (arith, scan-length a s size ns 0 k h)
+    → says done ≡ scan a s.atoms size ns 0 → length (joined a s ns) ≡ size
+scan_size a s size ns k h = omega (arith, scan-length a s size ns 0 k (sym h))

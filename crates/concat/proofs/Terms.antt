@@ -1,11 +1,11 @@
 -- Laws of a concat's terms: their bytes, and what copying them one behind the other leaves. Assumes nothing.
 use Prim.Native.Nat.{ℕ, ◌+◌, ◌-◌, ◌≤◌, ◌<◌}
 use mathlib.Core.Path.{◌≡◌, refl, sym, ap, ◌∙◌}
-use mathlib.Core.List.{List, [], ◌++◌, append_assoc}
+use mathlib.Core.List.{List, [], ◌++◌}
 use native.Mathlib.Numerals.{add-one}
 use native.Mathlib.Omega.{arith}
 use lib.ListN.{length, take, drop, get_or, length-append, drop_of_length-le}
-use lib.Seq.{slice, drop-cons, length-slice, paste}
+use lib.Seq.{slice, drop-cons, drop-drop, take-take}
 use Rattle.rules.specs.declared.Allocator.{Allocator}
 use Rattle.rules.specs.Said.{Said, says, refuses}
 use Rattle.rules.specs.State.{AtomSlots, Store, over}
@@ -15,12 +15,12 @@ use Rattle.rules.proofs.Lists.{part_slice}
 use Rattle.rules.proofs.Args.{AtomIn, atom_in}
 use Rattle.rules.proofs.Overs.{over_none, take-over, length_over, over-over, slice-same}
 
--- ---- a copy within one list: the range stands there once more
-pub paste_over : (d : List ℕ) (a e at : ℕ) → a ≤ e → e ≤ length d → paste d at (drop a d) (e - a) ≡ over d at (slice a e d)
-paste_over d a e at h k =
-    append_assoc (take at d) (take (e - a) (drop a d)) (drop (at + (e - a)) d)
-    ∙ ap (λ (v : List ℕ). take at d ++ (v ++ drop (at + (e - a)) d)) (part_slice a e d h)
-    ∙ ap (λ (n : ℕ). take at d ++ (slice a e d ++ drop (at + n) d)) (sym (length-slice a e d k))
+-- a range of what stands before a place, copied to the place
+pub range_over : (d : List ℕ) (s e at : ℕ) → s ≤ e → e ≤ at
+    → take at d ++ (take (e - s) (drop s (take at d)) ++ drop (length (take (e - s) (drop s (take at d)))) (drop at d)) ≡ over d at (slice s e d)
+range_over d s e at h k =
+    ap (λ (v : List ℕ). take at d ++ (v ++ drop (length v) (drop at d))) (part_slice s e (take at d) h ∙ ap (drop s) (take-take e at d k))
+    ∙ ap (λ (r : List ℕ). take at d ++ (slice s e d ++ r)) (drop-drop (length (slice s e d)) at d)
 
 -- a term's bytes are the same in lists whose used bytes are the same
 same_at : (a : Allocator) (b k : List ℕ) (r : Said Atom) → ((x : Atom) → r ≡ says x → AtomIn a x)
@@ -51,10 +51,6 @@ pub record Copied (a : Allocator) (s : Store) (ns b : List ℕ) (at i : ℕ) : T
   pub room : at + length (joined a s (drop i ns)) ≤ length b
   pub long : length b ≡ length s.bytes
   pub count : i ≤ length ns
-
-pub copied_none : (a : Allocator) (s : Store) (ns : List ℕ) → a.used.bytes + length (joined a s ns) ≤ length s.bytes
-    → Copied a s ns s.bytes a.used.bytes 0
-copied_none a s ns h = record { left = refl; same = refl; behind = omega arith; room = h; long = refl; count = omega arith }
 
 module _ (a : Allocator) (s : Store) (ns b : List ℕ) (at i : ℕ) (c : Copied a s ns b at i) where
   pub copied_all : length ns ≤ i → b ≡ over s.bytes a.used.bytes (joined a s ns)

@@ -1,7 +1,8 @@
 // The copying of a concat's terms behind the used bytes, after all tests.
 #![tactic(auto)]
 
-ghost use Rattle.std.specs.Prelude.{◌≡◌, ◌+◌, ◌≤◌, length};
+ghost use Rattle.std.specs.Prelude.{◌≡◌, ◌+◌, ◌-◌, ◌≤◌, length};
+ghost use Rattle.std.proofs.Math.Seq.{slice};
 ghost use Rattle.rules.specs.Small.{len_for, small_bytes};
 ghost use Rattle.rules.specs.State.{over, store};
 ghost use Rattle.rules.specs.Lent.{atoms_of, AtomsWithin};
@@ -22,6 +23,15 @@ fn copy_small(bytes: &mut [u8], v: u32, at: usize) -> usize
     at + len
 }
 
+// bytes[start..end] again at `at`, which lies behind them.
+fn copy_range(bytes: &mut [u8], start: usize, end: usize, at: usize)
+    requires { (start ≤ end) × (end ≤ at) × (at + (end - start) ≤ length bytes.old) }
+    ensures { bytes.new ≡ over bytes.old at (slice start end bytes.old) }
+{
+    let (used, free) = bytes.split_at_mut(at);
+    octets::copy(&used[start..end], free);
+}
+
 // One term's bytes at `at`, and where the next term's begin. What is read lies before the used bytes' end, so before `at`.
 fn copy_term(a: &Allocator, bytes: &mut [u8], atoms: AtomSlots, n: u32, at: usize) -> usize
     requires atoms_within { AtomsWithin a.now atoms.starts.now atoms.ends.now × (a.now.used.bytes ≤ at) }
@@ -31,7 +41,7 @@ fn copy_term(a: &Allocator, bytes: &mut [u8], atoms: AtomSlots, n: u32, at: usiz
 {
     match arg::atom_of(a, atoms, n) {
         Ok(Atom::Range(start, end)) => {
-            bytes.copy_within(start..end, at);
+            copy_range(bytes, start, end, at);
             at + (end - start)
         }
         Ok(Atom::Value(v)) => copy_small(bytes, v, at),

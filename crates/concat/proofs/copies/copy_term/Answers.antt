@@ -1,11 +1,10 @@
 -- `concat::copies::copy_term` meets its contract.
-use Rattle.std.proofs.Common.{◌≡◌, ◌≤◌, length, arith}
+use Rattle.std.proofs.Common.{◌≡◌, length, arith}
 use Rattle.rules.proofs.Smalls.{length-be}
 use Rattle.rules.specs.Small.{len_for}
 use Rattle.rules.specs.Lent.{atoms_of}
 use Rattle.rules.specs.Reads.{atom_of}
 use Rattle.rules.specs.Creates.{term_bytes}
-use Rattle.concat.proofs.Terms.{paste_over}
 use Rattle.concat.proofs.copies.copy_term.Goals as goal
 
 pub copy_small-requires : goal.copy_small-requires
@@ -14,13 +13,6 @@ copy_small-requires c =
     let m = c.in-Ok-Value in
     let len : length (term_bytes s.bytes.now (atom_of s.a.now (atoms_of s.atoms) s.n)) ≡ len_for m.v = simp (← m.ensures.value, m.field-0-is, length-be) in
     omega (arith, len)
-
-pub returns-in-Ok-Range-clause-written : goal.returns-in-Ok-Range-clause-written
-returns-in-Ok-Range-clause-written c =
-    let m = c.in-Ok-Range in
-    let in_order : m.start ≤ m.end = search arith in
-    let inside : m.end ≤ length c.args.bytes.now = search arith in
-    simp (← m.ensures.value, m.field-0-is, c.copy_within.ensures.after) (paste_over c.args.bytes.now m.start m.end c.args.at in_order inside)
 
 pub returns-in-Ok-Value-clause-end : goal.returns-in-Ok-Value-clause-end
 returns-in-Ok-Value-clause-end c =
