@@ -50,7 +50,6 @@ pub record Copied (a : Allocator) (s : Store) (ns b : List ℕ) (at i : ℕ) : T
   pub behind : a.used.bytes ≤ at
   pub room : at + length (joined a s (drop i ns)) ≤ length b
   pub long : length b ≡ length s.bytes
-  pub count : i ≤ length ns
 
 module _ (a : Allocator) (s : Store) (ns b : List ℕ) (at i : ℕ) (c : Copied a s ns b at i) where
   pub copied_all : length ns ≤ i → b ≡ over s.bytes a.used.bytes (joined a s ns)
@@ -86,5 +85,4 @@ module _ (a : Allocator) (s : Store) (ns b : List ℕ) (at i : ℕ) (c : Copied 
         behind = omega (arith, c.behind);
         room = omega (arith, length_over b next at (omega arith));
         long = length_over b next at (omega arith) ∙ c.long;
-        count = omega arith;
       }
