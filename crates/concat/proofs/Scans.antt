@@ -6,7 +6,7 @@ use mathlib.Core.List.{List, [], ◌∷◌, ◌++◌}
 use native.Mathlib.Decide.{dec_lt}
 use native.Mathlib.Numerals.{add-one}
 use native.Mathlib.Omega.{arith}
-use borrow.Author.Tests.{lt-leb, ne_eqb, eqb-true, leb-true}
+use borrow.Author.Tests.{lt-leb, ne_eqb, eqb-true}
 use lib.Dec.{leb, eqb}
 use lib.ListN.{length, drop, get_or, length-append, drop_of_length-le}
 use lib.Seq.{drop-cons, length-slice}
@@ -31,7 +31,7 @@ past-at size n x y (says (range start end)) go p q f =
 past-at size n x y (says (value v)) go p q f = f (x + len_for v) (y + len_for v) (omega arith) (omega arith)
 past-at size n x y (refuses code node) go p q f = refl
 
-pub scan-past : (a : Allocator) (t : AtomSlots) (size : ℕ) (ns : List ℕ) (x y : ℕ) → size < x → size < y → scan a t size ns x ≡ scan a t size ns y
+scan-past : (a : Allocator) (t : AtomSlots) (size : ℕ) (ns : List ℕ) (x y : ℕ) → size < x → size < y → scan a t size ns x ≡ scan a t size ns y
 unfolding scan
 scan-past a t size [] x y p q = rw (ne_eqb x size (λ e. omega arith), ne_eqb y size (λ e. omega arith))
 scan-past a t size (n ∷ ns) x y p q = past-at size n x y (atom_of a t n) (scan a t size ns) p q (scan-past a t size ns)
@@ -73,22 +73,6 @@ pub scan-end : (a : Allocator) (t : AtomSlots) (size : ℕ) (ns : List ℕ) (i x
 unfolding scan
 scan-end a t size ns i x h = rw (drop_of_length-le ns {i = i} h)
 
--- the running length stays within size + 1
-ran-at : (size n x : ℕ) (r : Said Atom) (y : ℕ) → ran size n x r ≡ says y → y ≤ size + 1
-ran-at size n x (says (range start end)) y h =
-    let p = passed (leb (x + (end - start)) size) 10 n (says (x + (end - start))) y h in
-    let e : x + (end - start) ≡ y = cc in
-    omega (arith, leb-true (x + (end - start)) size p.0)
-ran-at size n x (says (value v)) y h = let e : min (x + len_for v) (size + 1) ≡ y = cc in omega arith
-ran-at size n x (refuses code node) y h = let z : ◌≡◌ {A = ℕ} 0 1 = cc in absurd (omega arith)
-
--- a term that passes: the scan goes on from the running length after it
-pub scan-more : (a : Allocator) (t : AtomSlots) (size : ℕ) (ns : List ℕ) (i x y : ℕ) → i < length ns
-    → says y ≡ ran size (get_or ns i 0) x (atom_of a t (get_or ns i 0))
-    → (scan a t size (drop i ns) x ≡ scan a t size (drop (i + 1) ns) y) × (y ≤ size + 1)
-scan-more a t size ns i x y h e =
-    (scan_cons a t size ns i x (says y) h e, ran-at size (get_or ns i 0) x (atom_of a t (get_or ns i 0)) y (sym e))
-
 -- terms that pass have the size in all
 length_at : (a : Allocator) (b ns-bytes : List ℕ) (size n x : ℕ) (r : Said Atom) (go : ℕ → Said Done) → ((y : Atom) → r ≡ says y → AtomIn a y)
     → a.used.bytes ≤ length b → ((y : ℕ) → go y ≡ says done → y + length ns-bytes ≡ size)
@@ -110,5 +94,5 @@ scan-length a s size (n ∷ ns) x k h =
     (λ y. scan-length a s size ns y k) h
 
 pub scan_size : (a : Allocator) (s : Store) (size : ℕ) (ns : List ℕ) → a.used.bytes ≤ length s.bytes
-    → scan a s.atoms size ns 0 ≡ says done → length (joined a s ns) ≡ size
-scan_size a s size ns k h = omega (arith, scan-length a s size ns 0 k h)
+    → says done ≡ scan a s.atoms size ns 0 → length (joined a s ns) ≡ size
+scan_size a s size ns k h = omega (arith, scan-length a s size ns 0 k (sym h))

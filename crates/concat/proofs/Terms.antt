@@ -1,21 +1,26 @@
 -- Laws of a concat's terms: their bytes, and what copying them one behind the other leaves. Assumes nothing.
 use Prim.Native.Nat.{ℕ, ◌+◌, ◌-◌, ◌≤◌, ◌<◌}
-use mathlib.Core.Path.{◌≡◌, refl, sym, ap, subst, ◌∙◌}
+use mathlib.Core.Path.{◌≡◌, refl, sym, ap, ◌∙◌}
 use mathlib.Core.List.{List, [], ◌++◌}
 use native.Mathlib.Numerals.{add-one}
 use native.Mathlib.Omega.{arith}
-use borrow.Rule.Slice.PartMut.{put_mid}
 use lib.ListN.{length, take, drop, get_or, length-append, drop_of_length-le}
-use lib.Seq.{slice, drop-cons, length-slice}
+use lib.Seq.{slice, drop-cons, drop-drop, take-take}
 use Rattle.rules.specs.declared.Allocator.{Allocator}
-use Rattle.rules.specs.Small.{len_for, small_bytes}
 use Rattle.rules.specs.Said.{Said, says, refuses}
 use Rattle.rules.specs.State.{AtomSlots, Store, over}
 use Rattle.rules.specs.Reads.{Atom, range, value, atom_of}
 use Rattle.rules.specs.Creates.{term_bytes, joined}
+use Rattle.rules.proofs.Lists.{part_slice}
 use Rattle.rules.proofs.Args.{AtomIn, atom_in}
-use Rattle.rules.proofs.Smalls.{length-be}
-use Rattle.rules.proofs.Overs.{tail_over, over_none, take-over, length_over, over-over, slice-same}
+use Rattle.rules.proofs.Overs.{over_none, take-over, length_over, over-over, slice-same}
+
+-- a range of what stands before a place, copied to the place
+pub range_over : (d : List ℕ) (s e at : ℕ) → s ≤ e → e ≤ at
+    → take at d ++ (take (e - s) (drop s (take at d)) ++ drop (length (take (e - s) (drop s (take at d)))) (drop at d)) ≡ over d at (slice s e d)
+range_over d s e at h k =
+    ap (λ (v : List ℕ). take at d ++ (v ++ drop (length v) (drop at d))) (part_slice s e (take at d) h ∙ ap (drop s) (take-take e at d k))
+    ∙ ap (λ (r : List ℕ). take at d ++ (slice s e d ++ r)) (drop-drop (length (slice s e d)) at d)
 
 -- a term's bytes are the same in lists whose used bytes are the same
 same_at : (a : Allocator) (b k : List ℕ) (r : Said Atom) → ((x : Atom) → r ≡ says x → AtomIn a x)
@@ -24,31 +29,9 @@ same_at a b k (says (range start end)) f h = slice-same b k start end a.used.byt
 same_at a b k (says (value v)) f h = refl
 same_at a b k (refuses code node) f h = refl
 
-pub term-same : (a : Allocator) (t : AtomSlots) (n : ℕ) (b k : List ℕ)
+term-same : (a : Allocator) (t : AtomSlots) (n : ℕ) (b k : List ℕ)
     → take a.used.bytes b ≡ take a.used.bytes k → term_bytes b (atom_of a t n) ≡ term_bytes k (atom_of a t n)
 term-same a t n b k h = same_at a b k (atom_of a t n) (atom_in a t n) h
-
--- what a term that is to be copied asks: its range lies before the place, and there is room
-pub range-room : (a : Allocator) (t : AtomSlots) (n : ℕ) (b : List ℕ) (at start end : ℕ) → atom_of a t n ≡ says (range start end)
-    → a.used.bytes ≤ at → at + length (term_bytes b (atom_of a t n)) ≤ length b
-    → (start ≤ end) × (end ≤ at) × (at + (end - start) ≤ length b)
-range-room a t n b at start end e u h =
-    let i = atom_in a t n (range start end) e in
-    let k : at + length (slice start end b) ≤ length b = subst (λ (r : Said Atom). at + length (term_bytes b r) ≤ length b) e h in
-    (i.0, omega arith, omega (arith, length-slice start end b (omega arith)))
-
-pub value_room : (a : Allocator) (t : AtomSlots) (n : ℕ) (b : List ℕ) (at v : ℕ) → atom_of a t n ≡ says (value v)
-    → at + length (term_bytes b (atom_of a t n)) ≤ length b → (v < 67108864) × (at + len_for v ≤ length b)
-value_room a t n b at v e h =
-    let k : at + length (small_bytes v) ≤ length b = subst (λ (r : Said Atom). at + length (term_bytes b r) ≤ length b) e h in
-    (atom_in a t n (value v) e, omega (arith, length-be (len_for v) v))
-
--- what copying those bytes into the lent tail leaves of the list
-pub tail_small : (l part e : List ℕ) (v at : ℕ) → part ≡ small_bytes v → at + len_for v ≤ length l
-    → e ≡ part ++ drop (length part) (take (length l - at) (drop at l)) → put_mid at (length l - at) l e ≡ over l at (small_bytes v)
-tail_small l part e v at p h k =
-    tail_over l (small_bytes v) e at (omega (arith, length-be (len_for v) v))
-    (k ∙ ap (λ (w : List ℕ). w ++ drop (length w) (take (length l - at) (drop at l))) p)
 
 -- the bytes of the terms from the i-th on
 joined_cons : (a : Allocator) (s : Store) (ns : List ℕ) (i : ℕ) → i < length ns
@@ -67,11 +50,6 @@ pub record Copied (a : Allocator) (s : Store) (ns b : List ℕ) (at i : ℕ) : T
   pub behind : a.used.bytes ≤ at
   pub room : at + length (joined a s (drop i ns)) ≤ length b
   pub long : length b ≡ length s.bytes
-  pub count : i ≤ length ns
-
-pub copied_none : (a : Allocator) (s : Store) (ns : List ℕ) → a.used.bytes + length (joined a s ns) ≤ length s.bytes
-    → Copied a s ns s.bytes a.used.bytes 0
-copied_none a s ns h = record { left = refl; same = refl; behind = omega arith; room = h; long = refl; count = omega arith }
 
 module _ (a : Allocator) (s : Store) (ns b : List ℕ) (at i : ℕ) (c : Copied a s ns b at i) where
   pub copied_all : length ns ≤ i → b ≡ over s.bytes a.used.bytes (joined a s ns)
@@ -107,5 +85,4 @@ module _ (a : Allocator) (s : Store) (ns b : List ℕ) (at i : ℕ) (c : Copied 
         behind = omega (arith, c.behind);
         room = omega (arith, length_over b next at (omega arith));
         long = length_over b next at (omega arith) ∙ c.long;
-        count = omega arith;
       }

@@ -1,43 +1,29 @@
--- `concat::concat_all` meets its contract. Assumes nothing.
--- what the call was lent
-use Rattle.concat.proofs.Puts.{all_put, all-full, refused-is}
+-- `concat::concat_all` meets its contract: terms that pass the measuring have the size in all.
+use Rattle.std.proofs.Common.{rules, ◌≡◌, length}
+use Rattle.rules.specs.Said.{need}
+use Rattle.rules.specs.Lent.{store_in}
+use Rattle.rules.specs.Creates.{joined, store_atom}
 use Rattle.concat.proofs.Scans.{scan_size}
-use Rattle.rules.specs.Paper.{verdict_paper}
-use Rattle.rules.specs.Creates.{scan, joined}
-use Rattle.rules.specs.State.{store, atom_slots}
-use Rattle.rules.specs.Said.{says, done}
-use lib.ListN.{length}
-use native.Mathlib.Omega.{arith}
-use mathlib.Core.Path.{◌≡◌, sym, ap, ◌∙◌}
 use Rattle.concat.proofs.concat_all.Goals as goal
 
-pub measure-verdict-requires : goal.measure-verdict-requires
-measure-verdict-requires c =
-    omega (arith, c.requires)
+pub returns-in_err-need : goal.returns-in_err-need
+unfolding need store_atom
+returns-in_err-need c =
+    let a = c.args in
+    let e = c.in_ok-measure.ensures in
+    simp (← e, scan_size a.a.now (store_in a.bytes.now a.starts.now a.ends.now) a.size a.nodes.now c.requires.lent.bytes_fit e) (search rules)
 
-pub put_joined-requires : goal.put_joined-requires
-put_joined-requires c =
-    let st = store c.args.bytes.now (atom_slots c.args.starts.now c.args.ends.now) in
-    let passes : scan c.args.a st.atoms c.args.size c.args.nodes.now 0 ≡ says done = sym c.measure-verdict.ensures ∙ ap verdict_paper c.in-Done.is in
-    let long : length (joined c.args.a st c.args.nodes.now) ≡ c.args.size = scan_size c.args.a st c.args.size c.args.nodes.now c.requires.bytes_fit passes in
-    record { tested = c.requires; room = sym c.store_room.ensures ∙ c.if-store_room.true; size = long }
+pub copy_terms-requires-clause-fits : goal.copy_terms-requires-clause-fits
+copy_terms-requires-clause-fits c =
+    let a = c.args in
+    let e = c.in_ok-measure.ensures in
+    simp (scan_size a.a.now (store_in a.bytes.now a.starts.now a.ends.now) a.size a.nodes.now c.requires.lent.bytes_fit e) (search rules)
 
-pub returns-then-store_room : goal.returns-then-store_room
-returns-then-store_room c =
-    let st = store c.args.bytes.now (atom_slots c.args.starts.now c.args.ends.now) in
-    let passes : scan c.args.a st.atoms c.args.size c.args.nodes.now 0 ≡ says done = sym c.measure-verdict.ensures ∙ ap verdict_paper c.in-Done.is in
-    let long : length (joined c.args.a st c.args.nodes.now) ≡ c.args.size = scan_size c.args.a st c.args.size c.args.nodes.now c.requires.bytes_fit passes in
-    let r = sym c.store_room.ensures ∙ c.if-store_room.true in
-    c.put_joined.ensures ∙ sym (all_put c.args.a c.args.size c.args.nodes.now st passes long r)
-
-pub returns-in-Refused : goal.returns-in-Refused
-returns-in-Refused c =
-    refused-is _ _ _ _ _ c.refused.ensures ∙ simp (← c.measure-verdict.ensures, c.in-Refused.is)
-
-pub returns-else-store_room : goal.returns-else-store_room
-returns-else-store_room c =
-    let st = store c.args.bytes.now (atom_slots c.args.starts.now c.args.ends.now) in
-    let passes : scan c.args.a st.atoms c.args.size c.args.nodes.now 0 ≡ says done = sym c.measure-verdict.ensures ∙ ap verdict_paper c.in-Done.is in
-    let long : length (joined c.args.a st c.args.nodes.now) ≡ c.args.size = scan_size c.args.a st c.args.size c.args.nodes.now c.requires.bytes_fit passes in
-    let r = sym c.store_room.ensures ∙ c.if-store_room.false in
-    refused-is _ _ _ _ _ c.refused-in-Done.ensures ∙ sym (all-full c.args.a c.args.size c.args.nodes.now st passes long r)
+pub returns : goal.returns
+unfolding need store_atom
+returns c =
+    let a = c.args in
+    let s = store_in a.bytes.now a.starts.now a.ends.now in
+    let e = c.in_ok-measure.ensures in
+    let long : length (joined a.a.now s a.nodes.now) ≡ a.size = scan_size a.a.now s a.size a.nodes.now c.requires.lent.bytes_fit e in
+    simp (← e, long) (search rules)

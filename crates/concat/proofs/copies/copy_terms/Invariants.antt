@@ -1,12 +1,8 @@
--- `concat::copies::copy_terms` meets its contract: what is copied, with what is left to copy, is the whole. Assumes nothing.
+-- `concat::copies::copy_terms` meets its contract: what is copied, with what is left to copy, is the whole.
+use Rattle.rules.specs.State.{store}
+use Rattle.rules.specs.Lent.{atoms_of}
 use Rattle.concat.proofs.Terms.{Copied}
-use Rattle.rules.specs.State.{store, atom_slots}
-use lib.ListN.{length}
-use Prim.Native.Nat.{◌-◌}
 use Rattle.concat.proofs.copies.copy_terms.Given as goal
 
-abbrev pub invariant-loop-i : goal.invariant-loop-i
-invariant-loop-i l = Copied l.a (store l.initial.bytes (atom_slots l.starts l.ends)) l.nodes l.bytes l.at l.i
-
-abbrev pub decreases-loop-i : goal.decreases-loop-i
-decreases-loop-i l = length l.nodes - l.i
+abbrev pub invariant-loop-n : goal.invariant-loop-n
+invariant-loop-n l = Copied l.a (store l.initial.bytes (atoms_of l.atoms)) l.nodes l.bytes l.at l.n-index
