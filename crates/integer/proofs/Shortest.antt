@@ -1,19 +1,15 @@
 -- The bytes of an integer are the shortest that mean it, and no other bytes of their length do: one proof over the byte count,
 -- for both signs. Assumes nothing.
-use mathlib.Core.Path.{◌≡◌, refl, sym, ap, ◌∙◌, subst}
+use mathlib.Core.Path.{◌≡◌, sym, ap, ◌∙◌, subst}
 use mathlib.Core.List.{List, [], ◌∷◌}
-use Prim.Native.Nat.{ℕ, zero, suc, ◌-◌, ◌*◌, ◌^◌, ◌≤◌, ◌<◌, zero-le}
+use Prim.Native.Nat.{ℕ, zero, suc, ◌*◌, ◌^◌, ◌≤◌, ◌<◌, zero-le}
 use native.Mathlib.Nat.{pow-succ', mod-eq_of_lt, not-suc-le-zero}
 use native.Mathlib.Omega.{arith}
-use lib.Arith.{comp_comp}
-use lib.Dec.{ltb}
 use lib.IntN.{ℤ, pos, negsuc}
 use lib.ListN.{length}
 use lib.Signed.{mag}
-use borrow.Author.Tests.{lt-ltb, le-ltb, ltb-true, ltb-false}
 use Rattle.rules.specs.Small.{big, be, Octets}
 use Rattle.rules.specs.Integer.{signed, twos, residue, count_of, int_bytes, Shortest}
-use Rattle.rules.proofs.Tests.{choice}
 use Rattle.rules.proofs.Smalls.{length-be, be-octets, be-value}
 use Rattle.rules.proofs.Bytes.{pos256, big_lt}
 use Rattle.integer.proofs.Bytes.{same-big}
@@ -23,15 +19,11 @@ use Rattle.integer.proofs.Counts.{count_holds, count-least, count_neg, count_zer
 
 -- the meaning gives the number back
 residue-signed : (b range : ℕ) → b < range → residue (signed b range) range ≡ b
-residue-signed b range h =
-    choice (λ z. residue z range ≡ b) (ltb (b * 2) range) (pos b) (negsuc (range - suc b)) (λ e. refl) (λ e. comp_comp h)
+residue-signed b range h = grind arith
 
 -- half of the range holds the meaning
 mag_signed : (b range : ℕ) → zero < range → mag (signed b range) * 2 < range
-mag_signed b range p =
-    choice (λ z. mag z * 2 < range) (ltb (b * 2) range) (pos b) (negsuc (range - suc b))
-    (λ e. ltb-true (b * 2) range e)
-    (λ e. let h : range ≤ b * 2 = ltb-false (b * 2) range e in omega arith)
+mag_signed b range p = grind arith
 
 -- the range of some bytes has two halves
 even : (n : ℕ) → 1 ≤ n → (h : ℕ) × (256 ^ n ≡ h * 2)
@@ -40,12 +32,8 @@ even (suc n) p = (128 * 256 ^ n, omega (arith, pow-succ' 256 n))
 
 -- a number is what its residue means; a negative one takes a byte, for the range of none has no negative half
 signed-residue : (z : ℤ) → mag z < 18446744073709551616 → signed (residue z (256 ^ count_of z)) (256 ^ count_of z) ≡ z
-signed-residue (pos x) h = simp (lt-ltb _ _ (count_holds (pos x) h))
-signed-residue (negsuc m) h =
-    let t : ℕ = 256 ^ count_of (negsuc m) in
-    let g : m * 2 < t = count_holds (negsuc m) h in
-    let high : t ≤ (t - suc m) * 2 = omega (arith, (even (count_of (negsuc m)) (count_neg m)).1) in
-    simp (le-ltb _ _ high) (ap negsuc (comp_comp (let k : m < t = omega arith in k)))
+signed-residue (pos x) h = grind (arith, count_holds (pos x) h)
+signed-residue (negsuc m) h = grind (arith, count_holds (negsuc m) h, (even (count_of (negsuc m)) (count_neg m)).1)
 
 residue_lt : (z : ℤ) (range : ℕ) → mag z * 2 < range → residue z range < range
 residue_lt (pos x) range h = omega arith

@@ -40,13 +40,22 @@ const PREFIXES: [Prefix; 5] = [
     },
 ];
 
+// Entry k, by the table's rule.
+#[tactic(auto, unfolding(rules::specs::Serial::base_of, rules::specs::Serial::limit_of))]
+fn entry(k: usize) -> Prefix
+    requires { k < 5 }
+    ensures base { result.base ≡ base_of k }
+    ensures limit { result.limit ≡ limit_of k }
+{
+    PREFIXES[k]
+}
+
 // Where a prefix of k + 1 bytes starts.
-#[tactic(auto, unfolding(rules::specs::Serial::base_of))]
 pub fn base(k: usize) -> u64
     requires { k < 5 }
     ensures { result ≡ base_of k }
 {
-    u64::from(PREFIXES[k].base)
+    u64::from(entry(k).base)
 }
 
 // How many bytes a prefix that starts with b has after it: the next base is above b.
