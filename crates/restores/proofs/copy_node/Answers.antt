@@ -9,7 +9,8 @@ returns c =
     let s = c.args in
     let st = store s.bytes.now (atom_slots s.starts.now s.ends.now) in
     let clone = cloned_atom s.k.now s.a.now st s.start s.end _ _ c.requires c.copy.ensures.value in
-    settled s.a.now _ st _ c.small_or.result _ _ c.in_ok-n.was (c.small_or.ensures ∙ simp (c.less_ghosts-less.ensures, c.cut.ensures) clone)
+    let left = store c.small_or.new.bytes (atom_slots c.small_or.new.starts c.small_or.new.ends) in
+    settled s.a.now c.small_or.new.a st left c.small_or.result _ _ c.in_ok-n.was (c.small_or.ensures ∙ simp (c.less_ghosts-less.ensures, c.cut.ensures) clone)
 
 pub returns-in_err-n : goal.returns-in_err-n
 returns-in_err-n c =
