@@ -28,6 +28,9 @@ atoms_of s = atom_slots_in s.starts.now s.ends.now
 abbrev pub pairs_of : Pairs.PairSlots → PairSlots
 pairs_of s = pair_slots_in s.firsts.now s.rests.now
 
+abbrev pub slots_of : Lent.AtomSlots → Pairs.PairSlots → Slots
+slots_of t p = slots (atoms_of t) (pairs_of p)
+
 -- ---- to a call that creates, or restores
 
 abbrev pub store_in : Ref → Ref → Ref → Store
@@ -35,6 +38,9 @@ store_in bytes starts ends = store bytes (atom_slots_in starts ends)
 
 abbrev pub pair_store_in : Ref → Ref → PairStore
 pair_store_in firsts rests = pair_store (pair_slots_in firsts rests)
+
+abbrev pub pair_store_of : Pairs.PairSlots → PairStore
+pair_store_of p = pair_store (pairs_of p)
 
 abbrev pub slots_in : Ref → Ref → Ref → Ref → Slots
 slots_in starts ends firsts rests = slots (atom_slots_in starts ends) (pair_slots_in firsts rests)
