@@ -4,6 +4,7 @@ use Rattle.std.specs.Prelude.{ℕ, ◌≤◌, List, length}
 use Rattle.rules.specs.declared.Allocator.{Allocator}
 use Rattle.rules.specs.declared.AtomSlots as Lent
 use Rattle.rules.specs.declared.PairSlots as Pairs
+use Rattle.rules.specs.declared.Slices.{Slices}
 use Rattle.rules.specs.State.{AtomSlots, atom_slots, PairSlots, pair_slots, Lists, lists, Store, store, PairStore, pair_store, Slots, slots}
 
 -- what a reference to a lent list leads to: the list
@@ -27,6 +28,9 @@ atoms_of s = atom_slots_in s.starts.now s.ends.now
 
 abbrev pub pairs_of : Pairs.PairSlots → PairSlots
 pairs_of s = pair_slots_in s.firsts.now s.rests.now
+
+abbrev pub lists_of : Slices → Lists
+lists_of s = lists s.bytes.now (atoms_of s.atoms) (pairs_of s.pairs)
 
 -- ---- to a call that creates, or restores
 

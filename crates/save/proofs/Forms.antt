@@ -9,15 +9,12 @@ use lib.Dec.{leb}
 use lib.ListN.{length, take, drop, set, length-append, length-set}
 use lib.Seq.{slice, set_split}
 use Rattle.rules.specs.declared.Allocator.{Allocator}
-use Rattle.rules.specs.declared.NodeVisitor.{NodeVisitor}
-use Rattle.rules.specs.declared.Number.{Number}
 use Rattle.rules.specs.Node.{nil}
 use Rattle.rules.specs.Small.{small_bytes}
 use Rattle.rules.specs.Said.{Said, says, refuses, need, says_of}
 use Rattle.rules.specs.State.{AtomSlots, PairSlots, Lists, slots_sound, lists_sound, over}
 use Rattle.rules.specs.Reads.{Arg, pair_arg, bytes_arg, small_arg, arg, Visited, buffer, number, children, children_of, visited, node}
 use Rattle.rules.specs.Serial.{shortest_atom}
-use Rattle.rules.specs.Paper.{number_paper, visitor_paper}
 use Rattle.rules.specs.Load.{levels_of}
 use Rattle.rules.specs.Save.{next, fitted, form_pair, form_as, form_of, written, save}
 use Rattle.rules.proofs.Tests.{both}
@@ -27,32 +24,6 @@ use Rattle.rules.proofs.Args.{ArgIn, arg_in}
 use Rattle.rules.proofs.Lists.{part_slice}
 use Rattle.rules.proofs.Overs.{length_over, over-over}
 use Rattle.save.specs.Saves.{formed, Accepted}
-
--- ---- what an answer says, once its variant is known
-
-pub told : {r q : Number} {x : Said ℕ} → r ≡ q → number_paper r ≡ x → number_paper q ≡ x
-told e h = ap number_paper (sym e) ∙ h
-
--- ---- what a node that passed its tests has
-
-abbrev VisitedIn : Allocator → Visited → Type 0
-VisitedIn a (buffer start end) = (start ≤ end) × (end ≤ a.used.bytes)
-VisitedIn a (number v) = v < 67108864
-VisitedIn a (children first rest) = 0 ≤ 0
-
-visited-at : (a : Allocator) (t : AtomSlots) (p : PairSlots) (r : Said Arg) (x : Visited) → ((y : Arg) → r ≡ says y → ArgIn a t y)
-    → visited a p r ≡ says x → VisitedIn a x
-unfolding children_of
-visited-at a t p (says (pair_arg i)) x f h = let e = (passed _ _ _ _ _ h).1 in pair x e
-  where
-    pair : (y : Visited) {j k : ℕ} → says (children j k) ≡ says y → VisitedIn a y
-    pair y {j} {k} e = let q : children j k ≡ y = cc in subst (VisitedIn a) q (omega arith)
-visited-at a t p (says (bytes_arg i start end)) x f h =
-    let e : buffer start end ≡ x = cc in
-    let b = f (bytes_arg i start end) refl in
-    subst (VisitedIn a) e (b.order, b.inside)
-visited-at a t p (says (small_arg v)) x f h = let e : number v ≡ x = cc in subst (VisitedIn a) e (f (small_arg v) refl)
-visited-at a t p (refuses code node) x f h = let z : ◌≡◌ {A = ℕ} 0 1 = cc in absurd (omega arith)
 
 -- ---- parts of a pair's form
 
@@ -142,23 +113,12 @@ form-level a l (suc levels) room n h = let e : suc levels - 1 ≡ levels = omega
 
 -- ---- what reads::node answers beside a sound record
 
-module _ (a : Allocator) (l : Lists) (n : ℕ) (sound : lists_sound a l ≡ true) where
-  pub seen : (r q : NodeVisitor) → visitor_paper r ≡ node a l.atoms l.pairs n → r ≡ q
-      → visitor_paper q ≡ visited a l.pairs (arg a l.atoms n)
-  unfolding node
-  seen r q h e =
-      let v : Said Visited = visited a l.pairs (arg a l.atoms n) in
-      ap visitor_paper (sym e) ∙ h ∙ ap (λ (b : Bool). need b 1 nil v) (both (slots_sound a l.atoms l.pairs) _ sound).0 ∙ need_true 1 nil v
-
-  pub buffer_in : (start end : ℕ) → says (buffer start end) ≡ visited a l.pairs (arg a l.atoms n)
-      → (start ≤ end) × (end ≤ length l.bytes) × (end ≤ 4294967295)
-  buffer_in start end e =
-      let p = visited-at a l.atoms l.pairs (arg a l.atoms n) (buffer start end) (arg_in a l.atoms n) (sym e) in
-      let s = lists-lent a (length l.bytes) _ _ _ _ sound in
-      (p.0, omega (arith, p.1, s.bytes_fit), omega (arith, p.1, s.slots.atoms.limits.bytes))
-
-  pub number_in : (v : ℕ) → says (number v) ≡ visited a l.pairs (arg a l.atoms n) → v < 67108864
-  number_in v e = visited-at a l.atoms l.pairs (arg a l.atoms n) (number v) (arg_in a l.atoms n) (sym e)
+pub seen : (a : Allocator) (l : Lists) (n : ℕ) (s : Said Visited) → lists_sound a l ≡ true → s ≡ node a l.atoms l.pairs n
+    → s ≡ visited a l.pairs (arg a l.atoms n)
+unfolding node
+seen a l n s sound h =
+    let v : Said Visited = visited a l.pairs (arg a l.atoms n) in
+    h ∙ ap (λ (b : Bool). need b 1 nil v) (both (slots_sound a l.atoms l.pairs) _ sound).0 ∙ need_true 1 nil v
 
 -- ---- the measuring pass
 
