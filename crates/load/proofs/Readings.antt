@@ -1,17 +1,15 @@
 -- How the reader's definitions unfold, case by case. Assumes nothing.
 use Prim.Native.Nat.{ℕ, zero, suc, ◌+◌, ◌-◌}
-use mathlib.Core.Path.{◌≡◌, refl, sym, ap, ◌∙◌}
-use mathlib.Core.Bool.{true, false}
+use mathlib.Core.Path.{◌≡◌, refl, ap, ◌∙◌}
+use mathlib.Core.Bool.{false}
 use mathlib.Core.List.{List}
 use native.Mathlib.Omega.{arith}
-use borrow.Author.Tests.{eq-eqb, ne_eqb}
-use lib.ListN.{length}
 use Rattle.rules.specs.declared.Allocator.{Allocator}
 use Rattle.rules.specs.Node.{nil}
-use Rattle.rules.specs.Said.{says, refuses, Out}
-use Rattle.rules.specs.State.{Lists, Store, PairStore, together, lists_sound}
+use Rattle.rules.specs.Said.{says, refuses}
+use Rattle.rules.specs.State.{Lists, lists_sound}
 use Rattle.rules.specs.Serial.{Token, token}
-use Rattle.rules.specs.Load.{Reading, reading, placed, made_atom, made_pair, after, pair_item, read_pair, item_as, item, at_end, or_back, levels_of, load}
+use Rattle.rules.specs.Load.{Reading, reading, after, pair_item, read_pair, item_as, item, load}
 
 -- ---- an item
 
@@ -39,19 +37,9 @@ module _ (below : ℕ → Allocator → Lists → Reading) (at : ℕ) (a : Alloc
   abbrev rested : ℕ → ℕ → Allocator → Lists → Reading
   rested first mid b m = after (below mid b m) (joined first)
 
-  -- the first is refused
-  pub pair_first : (code node place : ℕ) (b : Allocator) (m : Lists) → reading (refuses code node) place b m ≡ below (at + 1) a l
-      → reading (refuses code node) place b m ≡ pair_item below at a l
-  pair_first code node place b m e = ap (λ (r : Reading). after r rested) e
-
   module _ (first mid : ℕ) (b : Allocator) (m : Lists) (e : reading (says first) mid b m ≡ below (at + 1) a l) where
     onto : after (below mid b m) (joined first) ≡ pair_item below at a l
     onto = ap (λ (r : Reading). after r rested) e
-
-    -- the rest is refused
-    pub pair_rest : (code node place : ℕ) (c : Allocator) (o : Lists) → reading (refuses code node) place c o ≡ below mid b m
-        → reading (refuses code node) place c o ≡ pair_item below at a l
-    pair_rest code node place c o g = ap (λ (r : Reading). after r (joined first)) g ∙ onto
 
     -- both are there
     pub pair_both : (rest next : ℕ) (c : Allocator) (o : Lists) → reading (says rest) next c o ≡ below mid b m
@@ -61,10 +49,6 @@ module _ (below : ℕ → Allocator → Lists → Reading) (at : ℕ) (a : Alloc
 -- ---- the whole file
 
 module _ (f : List ℕ) (a : Allocator) (l : Lists) where
-  pub load-sound : lists_sound a l ≡ true → or_back a (at_end (length f) (item f levels_of 0 a l)) ≡ load f a l
-  unfolding load
-  load-sound e = rw e
-
   pub load-unsound : lists_sound a l ≡ false → reading (refuses 1 nil) 0 a l ≡ load f a l
   unfolding load
   load-unsound e = rw e

@@ -12,15 +12,12 @@ use Rattle.rules.specs.declared.Allocator.{Allocator}
 use Rattle.rules.specs.Node.{nil}
 use Rattle.rules.specs.Small.{small_bytes}
 use Rattle.rules.specs.Said.{Said, says, refuses, need, says_of}
-use Rattle.rules.specs.State.{AtomSlots, PairSlots, Lists, slots_sound, lists_sound, over}
-use Rattle.rules.specs.Reads.{Arg, pair_arg, bytes_arg, small_arg, arg, Visited, buffer, number, children, children_of, visited, node}
+use Rattle.rules.specs.State.{Lists, slots_sound, lists_sound, over}
+use Rattle.rules.specs.Reads.{arg, Visited, buffer, number, children, visited, node}
 use Rattle.rules.specs.Serial.{shortest_atom}
-use Rattle.rules.specs.Load.{levels_of}
-use Rattle.rules.specs.Save.{next, fitted, form_pair, form_as, form_of, written, save}
+use Rattle.rules.specs.Save.{next, fitted, form_pair, form_as, form_of}
 use Rattle.rules.proofs.Tests.{both}
 use Rattle.rules.proofs.Needs.{need_true, passed}
-use Rattle.rules.proofs.Sound.{lists-lent}
-use Rattle.rules.proofs.Args.{ArgIn, arg_in}
 use Rattle.rules.proofs.Lists.{part_slice}
 use Rattle.rules.proofs.Overs.{length_over, over-over}
 use Rattle.save.specs.Saves.{formed, Accepted}
@@ -290,60 +287,7 @@ module _ (a : Allocator) (l : Lists) (levels n : ℕ) (file : List ℕ) (at : �
         ∙ over-over file (0xff ∷ split.one) split.other at (omega (arith, one_fits, open_room))
         ∙ ap (λ (v : List ℕ). over file at v) split.whole
 
-    pub pair-long : (after : List ℕ) → after ≡ over mid place (formed (below (length mid - place) rest)) → length after ≡ length file
-    pair-long after h =
-        let form : List ℕ = formed (form_of a l levels (length file - at) n) in
-        let k : length form ≤ length file - at = form-fits a l levels (length file - at) n form accepted in
-        ap length (pair_put after h) ∙ length_over file form at (omega (arith, open_room))
-
     pub pair-next : (end : ℕ) → end ≡ place + length (formed (below (length mid - place) rest))
         → end ≡ at + length (formed (form_of a l levels (length file - at) n))
     pair-next end h =
         omega (arith, next-is, ap length (form-is _ _ other_is), length-append split.one split.other, ap length split.whole)
-
--- ---- the whole write
-
-pub unsaved : (a : Allocator) (l : Lists) (n : ℕ) (file : List ℕ) → lists_sound a l ≡ false
-    → record { said = refuses 1 nil; file = file } ≡ save a l n file
-unfolding save need
-unsaved a l n file h = rw h
-
--- the room is all of the file
-module _ (a : Allocator) (l : Lists) (n : ℕ) (file : List ℕ) (sound : lists_sound a l ≡ true) where
-  save-is : save a l n file ≡ written (form_of a l levels_of (length file) n) file
-  unfolding save need
-  save-is = rw sound
-
-  pub save-refused : (code m : ℕ) → refuses code m ≡ says_of length (form_of a l levels_of (length file) n)
-      → record { said = refuses code m; file = file } ≡ save a l n file
-  save-refused code m h = at (form_of a l levels_of (length file) n) refl h
-    where
-      at : (s : Said (List ℕ)) → form_of a l levels_of (length file) n ≡ s → refuses code m ≡ says_of length s
-          → record { said = refuses code m; file = file } ≡ save a l n file
-      at (says v) e q = let z : ◌≡◌ {A = ℕ} 0 1 = cc in absurd (omega arith)
-      at (refuses c k) e q =
-          let w : save a l n file ≡ record { said = refuses c k; file = file } = save-is ∙ ap (λ (s : Said (List ℕ)). written s file) e in
-          let r : code ≡ c = cc in
-          let d : m ≡ k = cc in
-          rw (r, d) (sym w)
-
-  all_room : length file - 0 ≡ length file
-  all_room = omega arith
-
-  pub save-accepted : (u : ℕ) → says u ≡ says_of length (form_of a l levels_of (length file) n)
-      → Accepted (form_of a l levels_of (length file - 0) n)
-  save-accepted u h = rw all_room (at (form_of a l levels_of (length file) n) h)
-    where
-      at : (s : Said (List ℕ)) → says u ≡ says_of length s → Accepted s
-      at (says v) q = refl
-      at (refuses code node) q = let z : ◌≡◌ {A = ℕ} 0 1 = cc in absurd (omega arith)
-
-  pub saved : (after : List ℕ) (end : ℕ) → Accepted (form_of a l levels_of (length file - 0) n)
-      → after ≡ over file 0 (formed (form_of a l levels_of (length file - 0) n))
-      → end ≡ 0 + length (formed (form_of a l levels_of (length file - 0) n))
-      → record { said = says end; file = after } ≡ save a l n file
-  saved after end h p q =
-      let k : Accepted (form_of a l levels_of (length file) n) = rw all_room at h in
-      let v = formed (form_of a l levels_of (length file) n) in
-      let e : end ≡ length v = rw all_room at q ∙ omega arith in
-      rw (e, p, all_room) (sym (save-is ∙ ap (λ (s : Said (List ℕ)). written s file) k))

@@ -1,11 +1,10 @@
 -- `item` and `pair` meet their contracts: each call has fewer levels left, or enters the pair of a level.
-use mathlib.Core.Path.{sym, ap, ◌∙◌}
+use mathlib.Core.Path.{◌∙◌}
 use native.Mathlib.Omega.{arith}
-use Rattle.rules.specs.State.{pair_store, store}
-use Rattle.rules.specs.Lent.{lists_in, pair_slots_in, pair_store_in, store_in}
+use Rattle.rules.specs.Lent.{lists_in, pair_store_in, store_in}
 use Rattle.rules.specs.Serial.{broken, opening, string}
 use Rattle.rules.specs.Load as Rule
-use Rattle.load.proofs.Readings.{item-deep, item_by, pair_first, pair_rest, pair_both}
+use Rattle.load.proofs.Readings.{item-deep, item_by, pair_both}
 use Rattle.load.proofs.Tokens.{pair_inside, atom-inside}
 use Rattle.load.proofs.+item_pair.Goals as goal
 

@@ -1,10 +1,8 @@
 -- `save::measure` meets its contract.
-use Rattle.std.proofs.Common.{rules, arith, ap, sym, ◌∙◌, ◌-◌, ◌≤◌, ℕ, length, ◌≡◌}
-use Rattle.rules.specs.Said.{says, refuses, says_of}
-use Rattle.rules.specs.Reads.{buffer, number, children, visited, arg}
+use Rattle.std.proofs.Common.{rules, arith, ◌∙◌, ◌-◌, ◌≤◌, ◌≡◌}
+use Rattle.rules.specs.Said.{says}
+use Rattle.rules.specs.Reads.{children}
 use Rattle.rules.specs.Lent.{lists_of}
-use Rattle.rules.specs.Save.{form_of}
-use Rattle.rules.specs.Paper.{said_in, code_number}
 use Rattle.save.proofs.Forms.{seen, length-fits, form-deep, measured_buffer, measured_number, measured_refused, measured_full, measured_first, measured_rest, measured_pair}
 use Rattle.save.proofs.+measure.Goals as goal
 

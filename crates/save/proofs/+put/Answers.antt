@@ -1,14 +1,10 @@
 -- `save::put` meets its contract.
-use Rattle.std.proofs.Common.{arith, ap, ◌∙◌, ◌+◌, ◌-◌, ◌≤◌, ◌<◌, ◌≡◌, ℕ, length}
-use lib.ListN.{take, drop, length-take, length-drop, length-set}
-use Rattle.rules.specs.Small.{small_bytes}
+use Rattle.std.proofs.Common.{arith, ap, ◌∙◌, ◌+◌, ◌-◌, ◌≤◌, ◌<◌, length}
+use lib.ListN.{length-take, length-drop, length-set}
 use Rattle.rules.specs.Said.{says}
 use Rattle.rules.specs.State.{over}
-use Rattle.rules.specs.Reads.{buffer, number, children, visited, arg}
-use Rattle.rules.specs.Serial.{shortest_atom}
+use Rattle.rules.specs.Reads.{children}
 use Rattle.rules.specs.Lent.{lists_of}
-use Rattle.rules.specs.Save.{form_of}
-use Rattle.save.specs.Saves.{formed}
 use Rattle.save.proofs.Forms.{seen, some_level, not_refused, put_buffer, put_number, open_room, first_accepted, rest_room, rest_accepted, pair_put, pair-next}
 use Rattle.save.proofs.+put.Goals as goal
 
