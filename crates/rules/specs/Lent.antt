@@ -4,6 +4,7 @@ use Rattle.std.specs.Prelude.{ℕ, ◌≤◌, List, length}
 use Rattle.rules.specs.declared.Allocator.{Allocator}
 use Rattle.rules.specs.declared.AtomSlots as Lent
 use Rattle.rules.specs.declared.PairSlots as Pairs
+use Rattle.rules.specs.declared.Slices.{Slices}
 use Rattle.rules.specs.State.{AtomSlots, atom_slots, PairSlots, pair_slots, Lists, lists, Store, store, PairStore, pair_store, Slots, slots}
 
 -- what a reference to a lent list leads to: the list
@@ -30,6 +31,9 @@ pairs_of s = pair_slots_in s.firsts.now s.rests.now
 
 abbrev pub slots_of : Lent.AtomSlots → Pairs.PairSlots → Slots
 slots_of t p = slots (atoms_of t) (pairs_of p)
+
+abbrev pub lists_of : Slices → Lists
+lists_of s = lists s.bytes.now (atoms_of s.atoms) (pairs_of s.pairs)
 
 -- ---- to a call that creates, or restores
 
