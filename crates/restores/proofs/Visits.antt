@@ -17,30 +17,6 @@ node_visits : (a : Allocator) (t : AtomSlots) (p : PairSlots) (n : ℕ) → slot
 unfolding node need
 node_visits a t p n h = rw h
 
-never : {A : Type 0} (s e : ℕ) (f r : ℕ) → says (children f r) ≡ says (buffer s e) → A
-never s e f r h = let z : ◌≡◌ {A = ℕ} 0 1 = cc in absurd (let q : ⊥ = omega arith in q)
-
--- a pair's children are no buffer, and neither is its refusal
-no_child : {A : Type 0} (a : Allocator) (p : PairSlots) (i s e : ℕ) → children_of a p i children ≡ says (buffer s e) → A
-unfolding children_of
-no_child {A} a p i s e = need_ind (λ r. r ≡ says (buffer s e) → A) (pair_slot_sound a.used.atoms p i) _ _ _
-    (λ b h. let z : ◌≡◌ {A = ℕ} 0 1 = cc in absurd (let q : ⊥ = omega arith in q))
-    (λ b h. never s e (first_at p i) (rest_at p i) h)
-
-in_range : (a : Allocator) (t : AtomSlots) (p : PairSlots) (s e : ℕ) (r : Said Arg) → ((x : Arg) → r ≡ says x → ArgIn a t x)
-    → visited a p r ≡ says (buffer s e) → (s ≤ e) × (e ≤ a.used.bytes)
-in_range a t p s e (says (pair_arg i)) f h = no_child a p i s e h
-in_range a t p s e (says (bytes_arg i x y)) f h =
-    let u : x ≡ s = cc in let v : y ≡ e = cc in let b = f (bytes_arg i x y) refl in
-    rw (← u, ← v) (b.order, b.inside)
-in_range a t p s e (says (small_arg v)) f h = let z : ◌≡◌ {A = ℕ} 0 1 = cc in absurd (omega arith)
-in_range a t p s e (refuses code node) f h = let z : ◌≡◌ {A = ℕ} 0 1 = cc in absurd (omega arith)
-
--- a buffer lies within the used bytes
-pub buffer_in : (a : Allocator) (t : AtomSlots) (p : PairSlots) (n s e : ℕ) → slots_sound a t p ≡ true
-    → says (buffer s e) ≡ node a t p n → (s ≤ e) × (e ≤ a.used.bytes)
-buffer_in a t p n s e h q = in_range a t p s e (arg a t n) (arg_in a t n) (sym (q ∙ node_visits a t p n h))
-
 by_arg : (a : Allocator) (p : PairSlots) (x : Arg) → visited_course a (visited a p (says x)) ≡ new_course a x
 unfolding children_of
 by_arg a p (pair_arg i) = need_ind (λ r. visited_course a r ≡ says abort) (pair_slot_sound a.used.atoms p i) _ _ _ (λ b. refl) (λ b. refl)
