@@ -9,7 +9,7 @@ ghost use Rattle.rules.specs.Said as Said;
 ghost use Rattle.rules.specs.Record.{checkpoint};
 ghost use Rattle.rules.specs.Lent.{lists_in};
 ghost use Rattle.rules.specs.Paper.{code_number, maybe_paper};
-ghost use Rattle.request.specs.Request.{meant, way_of, Within};
+ghost use Rattle.request.specs.Request.{request_is, way_of};
 ghost use Rattle.machine.specs.Machine.{told_of, fresh_machine, with_state, with_restored, did_of, did_bad, did_take, shown_by, did_restore, acted, act_of};
 ghost use Rattle.machine.specs.Sane.{Sane};
 
@@ -31,18 +31,11 @@ pub struct Machine {
     pub checkpoints: [Checkpoint; 32],
 }
 
-// The node that an answer names, if it does.
-#[derive(Clone, Copy)]
-pub enum Named {
-    Node(u32),
-    Nothing,
-}
-
-// What a request is told: the code, 0 where it was accepted, and the node.
+// What a request is told: the code, 0 where it was accepted, and the node that the answer names, if it does.
 #[derive(Clone, Copy)]
 pub struct Told {
     pub code: usize,
-    pub node: Named,
+    pub node: Option<u32>,
 }
 
 // What a request did: the machine after it, and what it is told.
@@ -54,16 +47,16 @@ pub struct Did {
 
 // A refusal names the node of document 01's table.
 fn refused(code: Code, n: u32) -> Told
-    ensures { result ≡ told_of (code_number code) (Named.Node n) }
+    ensures { result ≡ told_of (code_number code) (Some n) }
 {
     Told {
         code: node::code::number_of(code) as usize,
-        node: Named::Node(n),
+        node: Some(n),
     }
 }
 
 // What was accepted.
-fn accepted(node: Named) -> Told
+fn accepted(node: Option<u32>) -> Told
     ensures { result ≡ told_of 0 node }
 {
     Told { code: 0, node }
@@ -123,21 +116,21 @@ fn with_restored(m: Machine, k: Counts, a: Allocator) -> Machine
 }
 
 // A bad record: 16, and no node.
-fn bad(m: Machine) -> Did
+pub fn bad(m: Machine) -> Did
     ensures { result ≡ did_bad m }
 {
     Did {
         machine: m,
         told: Told {
             code: BAD_RECORD,
-            node: Named::Nothing,
+            node: None,
         },
     }
 }
 
 // A refusal of the program itself: it names nil.
 fn refuse(m: Machine, code: Code) -> Did
-    ensures { result ≡ did_of m (told_of (code_number code) (Named.Node nil)) }
+    ensures { result ≡ did_of m (told_of (code_number code) (Some nil)) }
 {
     Did {
         machine: m,
@@ -165,7 +158,7 @@ fn keep(m: Machine, k: Checkpoint) -> Did
             taken: i + 1,
             checkpoints,
         },
-        told: accepted(Named::Nothing),
+        told: accepted(None),
     }
 }
 
@@ -186,13 +179,13 @@ fn take(m: Machine) -> Did
 }
 
 // A restore that replaced no node names the one that it was given, if it was given one.
-fn shown_by(way: Way) -> Named
+fn shown_by(way: Way) -> Option<u32>
     ensures { result ≡ shown_by (way_of way) }
 {
     match way {
-        Way::Plainly => Named::Nothing,
-        Way::Transparently => Named::Nothing,
-        Way::WithNode(n) => Named::Node(n),
+        Way::Plainly => None,
+        Way::Transparently => None,
+        Way::WithNode(n) => Some(n),
     }
 }
 
@@ -210,11 +203,11 @@ fn back(m: Machine, k: Counts, way: Way, restored: Restored) -> Did
         },
         MaybeRestore::Replace(n) => Did {
             machine: with_restored(m, k, a),
-            told: accepted(Named::Node(n)),
+            told: accepted(Some(n)),
         },
         MaybeRestore::Aborted => Did {
             machine: with_state(m, a),
-            told: accepted(Named::Nothing),
+            told: accepted(None),
         },
         MaybeRestore::Refused(code, n) => Did {
             machine: with_state(m, a),
@@ -223,7 +216,7 @@ fn back(m: Machine, k: Counts, way: Way, restored: Restored) -> Did
     }
 }
 
-// What a request does. Its ranges are those of the input. A restore to a number that was not taken gives 11, before anything else.
+// What a request does. A restore to a number that was not taken gives 11, before anything else.
 pub fn act(
     m: Machine,
     bytes: &mut [u8],
@@ -231,18 +224,16 @@ pub fn act(
     ends: &mut [u32],
     firsts: &mut [u32],
     rests: &mut [u32],
-    input: &[u8],
     request: Request,
 ) -> Did
-    requires sane { Sane m }
-    requires within { Within (length input.now) request }
+    requires { Sane m }
     ensures { acted result (lists_in bytes.new starts.new ends.new firsts.new rests.new)
-        ≡ act_of m (lists_in bytes.old starts.old ends.old firsts.old rests.old) (meant input.now request) }
+        ≡ act_of m (lists_in bytes.old starts.old ends.old firsts.old rests.old) (request_is request.entry) }
 {
     let a = m.state;
     match request {
         Request::Make(making) => {
-            let called = calls::make(a, bytes, starts, ends, firsts, rests, input, making);
+            let called = calls::make(a, bytes, starts, ends, firsts, rests, making);
             let told = called.told;
             Did {
                 machine: with_state(m, called.state),
@@ -258,6 +249,5 @@ pub fn act(
             let restored = calls::go_back(a, bytes, starts, ends, firsts, rests, way, k);
             back(m, k.used, way, restored)
         }
-        Request::Bad => bad(m),
     }
 }
