@@ -78,7 +78,7 @@ module _ (m : Machine) (l : Lists) (i : List ℕ) (p : Page) (h : 0 < length i) 
 
   -- a record done and its row written
   pub advanced : (d : Did) (l' : Lists) (size : Option ℕ) (m' : Machine) (p' : Page) → stepped (acted d l') size ≡ step_on m l i → m' ≡ with_row d.machine
-      → written p' ≡ written p ++ row_text (row_of d (d.machine.shown + 1)) → capacity p' ≡ capacity p
+      → written p' ≡ written p ++ row_text (row_of (with_row d.machine) d.told) → capacity p' ≡ capacity p
       → length (written p') ≤ length (written p) + 126 → Advanced m l i p l' p' (record { machine = m'; size = size })
   advanced d l' size m' p' e f w c b =
       subst (λ (x : Machine). Advanced m l i p l' p' (record { machine = x; size = size })) (sym f) (written_step (stepped (acted d l') size) p' e w c b)

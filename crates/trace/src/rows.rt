@@ -38,12 +38,15 @@ fn show(d: Did, page: &mut Page) -> Machine
     requires bounds { (d.machine.shown < 18446744073709551615) × Limits d.machine.state }
     requires room { length (written page.old) + 126 ≤ capacity page.old }
     ensures machine { result ≡ with_row d.machine }
-    ensures text { written page.new ≡ written page.old ++ row_text (row_of d (d.machine.shown + 1)) }
+    ensures text { written page.new ≡ written page.old ++ row_text (row_of (with_row d.machine) d.told) }
     ensures capacity { capacity page.new ≡ capacity page.old }
     ensures bound { length (written page.new) ≤ length (written page.old) + 126 }
 {
-    let machine = step::with_row(d.machine);
-    text::put_row(page, step::row_of(d, machine.shown));
+    let machine = Machine {
+        shown: d.machine.shown + 1,
+        ..d.machine
+    };
+    text::put_row(page, step::row_of(&machine, d.told));
     machine
 }
 

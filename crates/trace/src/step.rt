@@ -1,35 +1,23 @@
 // What a record's row shows.
-ghost use Rattle.std.specs.Prelude.{◌≡◌, ◌<◌};
+ghost use Rattle.std.specs.Prelude.{◌≡◌};
 ghost use Rattle.rules.proofs.Limits.{Limits};
-ghost use Rattle.trace.specs.Step.{row_of, with_row};
+ghost use Rattle.trace.specs.Step.{row_of};
 
-use machine::{Did, Machine};
+use machine::{Machine, Told};
 use text::Row;
 
-// The row of what a record did: the totals are used + ghost.
-pub fn row_of(d: Did, n: usize) -> Row
-    requires { Limits d.machine.state }
-    ensures { result ≡ row_of d n }
+// The row of a record, once the machine has counted it: the totals are used + ghost.
+pub fn row_of(m: &Machine, told: Told) -> Row
+    requires { Limits m.now.state }
+    ensures { result ≡ row_of m.now told }
 {
-    let a = d.machine.state;
-    let told = d.told;
+    let a = m.state;
     Row {
-        n,
+        n: m.shown,
         code: told.code,
         node: told.node,
         atoms: a.used.atoms + a.ghosts.atoms,
         pairs: a.used.pairs + a.ghosts.pairs,
         heap: a.used.bytes + a.ghosts.bytes,
-    }
-}
-
-// One row more is shown.
-pub fn with_row(m: Machine) -> Machine
-    requires { m.shown < 18446744073709551615 }
-    ensures { result ≡ with_row m }
-{
-    Machine {
-        shown: m.shown + 1,
-        ..m
     }
 }
