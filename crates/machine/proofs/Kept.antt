@@ -22,8 +22,7 @@ use Rattle.request.specs.Request.{Request, making, taking, restoring, bad}
 use Rattle.request.proofs.Fine.{Fine}
 use Rattle.machine.specs.declared.Machine.{Machine}
 use Rattle.machine.specs.declared.Told.{Told}
-use Rattle.machine.specs.declared.Did.{Did}
-use Rattle.machine.specs.Machine.{with_state, with_checkpoint, with_restored, checkpoint_at, state_in, state_of, told_of, did_of, did_take, did_restore, Acted, acted, went_back, act_of}
+use Rattle.machine.specs.Machine.{Did, with_state, with_checkpoint, with_restored, checkpoint_at, state_in, state_of, told_of, did_of, did_take, did_restore, Acted, acted, went_back, act_of}
 use Rattle.machine.specs.Sane.{Sane, Ready}
 
 pub record Kept (m : Machine) (x : Acted) : Type 0 where

@@ -13,7 +13,6 @@ use Rattle.rules.specs.Whole.{St, Whole, call, Way, plainly, transparently, with
 use Rattle.request.specs.Request.{Request, making, taking, restoring, bad}
 use Rattle.machine.specs.declared.Machine.{Machine}
 use Rattle.machine.specs.declared.Told.{Told}
-use Rattle.machine.specs.declared.Did.{Did}
 use Rattle.machine.specs.declared.calls.Called.{Called}
 
 -- ---- the machine
@@ -85,6 +84,11 @@ called_of said a = record { told = tells said; state = a }
 
 abbrev pub came : Called → Lists → Came
 came r l = record { told = r.told; next = state_in r.state l }
+
+-- a request did something: the machine after it, and what it is told
+pub record Did : Type 0 where
+  pub machine : Machine
+  pub told : Told
 
 abbrev pub did_of : Machine → Told → Did
 did_of m told = record { machine = m; told = told }

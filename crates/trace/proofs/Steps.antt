@@ -13,8 +13,8 @@ use Rattle.request.specs.Request.{Request, making, taking, restoring, bad, reque
 use Rattle.request.proofs.Frames.{frame_fits}
 use Rattle.request.proofs.Fine.{request_fine}
 use Rattle.machine.specs.declared.Machine.{Machine}
-use Rattle.machine.specs.declared.Did.{Did}
-use Rattle.machine.specs.Machine.{Acted, acted, did_bad, act_of}
+use Rattle.machine.specs.declared.Told.{Told}
+use Rattle.machine.specs.Machine.{told_of, did_of, Acted, acted, act_of}
 use Rattle.machine.specs.Sane.{Ready}
 use Rattle.machine.proofs.Kept.{Kept, act_kept}
 use Rattle.trace.specs.Step.{with_row, bytes_of, Stepped, stepped, step_on}
@@ -51,9 +51,9 @@ step_made m l i a r n e f g = ap₂ stepped (e ∙ ap (act_of m l) f) (ap Some g
     whole TakeCheckpoint n = refl
     whole (Restore way number) n = refl
 
-pub step-ended : (m : Machine) (l : Lists) (i : List ℕ) (d : Did) → d ≡ did_bad m → bad ≡ request_at i → stepped (acted d l) None ≡ step_on m l i
-step-ended m l i d e f =
-    ap (λ (x : Did). stepped (acted x l) None) e ∙ ap (λ (x : Request). stepped (act_of m l x) (bytes_of x (frame_size (frame_of i)))) f
+pub step-ended : (m : Machine) (l : Lists) (i : List ℕ) (told : Told) → told ≡ told_of 16 None → bad ≡ request_at i → stepped (acted (did_of m told) l) None ≡ step_on m l i
+step-ended m l i told e f =
+    ap (λ (x : Told). stepped (acted (did_of m x) l) None) e ∙ ap (λ (x : Request). stepped (act_of m l x) (bytes_of x (frame_size (frame_of i)))) f
 
 bytes_if : (P : ℕ → Type 0) (r : Request) (n : ℕ) → P n → IfSome (bytes_of r n) P
 bytes_if P (making c) n h = h

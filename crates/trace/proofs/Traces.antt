@@ -10,13 +10,10 @@ use Rattle.text.specs.Page.{written, capacity}
 use Rattle.text.specs.Text.{row_text}
 use Rattle.machine.specs.declared.Machine.{Machine}
 use Rattle.machine.specs.Sane.{Ready}
-use Rattle.machine.specs.declared.Did.{Did}
-use Rattle.machine.specs.Machine.{acted}
-use Rattle.trace.specs.declared.rows.Moved.{Moved}
-use Rattle.trace.specs.declared.rows.Ran.{Ran}
+use Rattle.machine.specs.Machine.{Did, acted}
 use Rattle.trace.specs.Step.{row_of, with_row, Stepped, stepped, step_on}
 use Rattle.trace.specs.Trace.{end_of, after, trace_to, trace_of}
-use Rattle.trace.specs.Run.{next_of, Advanced, ran_of, Ended, RanFrom}
+use Rattle.trace.specs.Run.{next_of, Advanced, RanFrom}
 use Rattle.trace.proofs.Steps.{size_facts, StepFacts, step_facts}
 
 -- ---- one record at a time
@@ -62,7 +59,7 @@ trace_step m l (b ∷ i) h =
 
 module _ (m : Machine) (l : Lists) (i : List ℕ) (p : Page) (h : 0 < length i) (k : Ready m l) (o : Octets i) (n : m.shown < 536870912) where
   written_step : (t : Stepped) (p' : Page) → t ≡ step_on m l i → written p' ≡ written p ++ row_text t.row → capacity p' ≡ capacity p
-      → length (written p') ≤ length (written p) + 126 → Advanced m l i p t.left p' (record { machine = t.machine; size = t.size })
+      → length (written p') ≤ length (written p) + 126 → Advanced m l i p t.machine t.left p' t.size
   written_step t p' e w c b =
       let f : StepFacts m i t = subst (StepFacts m i) (sym e) (step_facts m l i k o n) in
       record {
@@ -77,11 +74,11 @@ module _ (m : Machine) (l : Lists) (i : List ℕ) (p : Page) (h : 0 < length i) 
       }
 
   -- a record done and its row written
-  pub advanced : (d : Did) (l' : Lists) (size : Option ℕ) (m' : Machine) (p' : Page) → stepped (acted d l') size ≡ step_on m l i → m' ≡ with_row d.machine
+  pub advanced : (d : Did) (m' : Machine) (l' : Lists) (p' : Page) (size : Option ℕ) → stepped (acted d l') size ≡ step_on m l i → m' ≡ with_row d.machine
       → written p' ≡ written p ++ row_text (row_of (with_row d.machine) d.told) → capacity p' ≡ capacity p
-      → length (written p') ≤ length (written p) + 126 → Advanced m l i p l' p' (record { machine = m'; size = size })
-  advanced d l' size m' p' e f w c b =
-      subst (λ (x : Machine). Advanced m l i p l' p' (record { machine = x; size = size })) (sym f) (written_step (stepped (acted d l') size) p' e w c b)
+      → length (written p') ≤ length (written p) + 126 → Advanced m l i p m' l' p' size
+  advanced d m' l' p' size e f w c b =
+      subst (λ (x : Machine). Advanced m l i p x l' p' size) (sym f) (written_step (stepped (acted d l') size) p' e w c b)
 
 -- ---- a stretch of records
 
@@ -98,7 +95,7 @@ pub record Along (m₀ : Machine) (l₀ : Lists) (i : List ℕ) (at₀ : ℕ) (p
 
 module _ (m₀ : Machine) (l₀ : Lists) (i : List ℕ) (at₀ : ℕ) (p₀ : Page) (l : Lists) (p : Page) (m : Machine) (at : ℕ) (a : Along m₀ l₀ i at₀ p₀ l p m at) where
   -- no room is left
-  pub along_stops : capacity p < length (written p) + 172 → RanFrom m₀ l₀ i at₀ p₀ l p (ran_of m (Some at))
+  pub along_stops : capacity p < length (written p) + 172 → RanFrom m₀ l₀ i at₀ p₀ m l p (Some at)
   along_stops h = record {
     text = a.text;
     same-capacity = a.same-capacity;
@@ -109,40 +106,40 @@ module _ (m₀ : Machine) (l₀ : Lists) (i : List ℕ) (at₀ : ℕ) (p₀ : Pa
   }
 
   -- no record is left: the last line
-  pub along_last : (p' : Page) (r : Ran) → length i ≤ at → Ended m p p' r → RanFrom m₀ l₀ i at₀ p₀ l p' r
-  along_last p' r h e =
-      subst (λ (x : Ran). RanFrom m₀ l₀ i at₀ p₀ l p' x) (sym e.is)
-      (record {
-        text = append-nil (written p') ∙ e.text
-            ∙ ap (λ (x : List ℕ). written p ++ x) (sym (trace_end m l (drop at i) (simp length-drop (omega arith)))) ∙ a.text;
-        same-capacity = e.same-capacity ∙ a.same-capacity;
-        ready = a.ready;
-        room = omega (arith, a.room, e.room);
-        counts = omega (arith, a.counts, a.within);
-        full = tt;
-      })
+  pub along_last : (p' : Page) → length i ≤ at → written p' ≡ written p ++ end_of m → capacity p' ≡ capacity p
+      → length (written p') ≤ length (written p) + 46 → RanFrom m₀ l₀ i at₀ p₀ m l p' None
+  along_last p' h w c b = record {
+    text = append-nil (written p') ∙ w
+        ∙ ap (λ (x : List ℕ). written p ++ x) (sym (trace_end m l (drop at i) (simp length-drop (omega arith)))) ∙ a.text;
+    same-capacity = c ∙ a.same-capacity;
+    ready = a.ready;
+    room = omega (arith, a.room, b);
+    counts = omega (arith, a.counts, a.within);
+    full = tt;
+  }
 
-  module _ (part : List ℕ) (l' : Lists) (p' : Page) (r : Moved) (e : part ≡ drop at i) (d : Advanced m l part p l' p' r) (h : length (written p) + 172 ≤ capacity p) where
-    moved-text : written p' ++ next_of r.size r.machine l' (drop at i) ≡ written p₀ ++ trace_of m₀ l₀ (drop at₀ i)
+  module _ (part : List ℕ) (m' : Machine) (l' : Lists) (p' : Page) (size : Option ℕ) (e : part ≡ drop at i) (d : Advanced m l part p m' l' p' size)
+      (h : length (written p) + 172 ≤ capacity p) where
+    moved-text : written p' ++ next_of size m' l' (drop at i) ≡ written p₀ ++ trace_of m₀ l₀ (drop at₀ i)
     moved-text =
-        ap (λ (x : List ℕ). written p' ++ next_of r.size r.machine l' x) (sym e) ∙ d.text
+        ap (λ (x : List ℕ). written p' ++ next_of size m' l' x) (sym e) ∙ d.text
         ∙ ap (λ (x : List ℕ). written p ++ trace_of m l x) e ∙ a.text
 
     -- a bad record: the last line
-    pub along_ends : (p'' : Page) (q : Ran) → r.size ≡ None → Ended r.machine p' p'' q → RanFrom m₀ l₀ i at₀ p₀ l' p'' q
-    along_ends p'' q z k =
-        let t : written p' ++ end_of r.machine ≡ written p₀ ++ trace_of m₀ l₀ (drop at₀ i) = simp z at moved-text in
-        subst (λ (x : Ran). RanFrom m₀ l₀ i at₀ p₀ l' p'' x) (sym k.is)
-        (record {
-          text = append-nil (written p'') ∙ k.text ∙ t;
-          same-capacity = k.same-capacity ∙ d.same-capacity ∙ a.same-capacity;
+    pub along_ends : (p'' : Page) → size ≡ None → written p'' ≡ written p' ++ end_of m' → capacity p'' ≡ capacity p'
+        → length (written p'') ≤ length (written p') + 46 → RanFrom m₀ l₀ i at₀ p₀ m' l' p'' None
+    along_ends p'' z w c b =
+        let t : written p' ++ end_of m' ≡ written p₀ ++ trace_of m₀ l₀ (drop at₀ i) = simp z at moved-text in
+        record {
+          text = append-nil (written p'') ∙ w ∙ t;
+          same-capacity = c ∙ d.same-capacity ∙ a.same-capacity;
           ready = d.ready;
-          room = omega (arith, d.room, d.counts, a.room, k.room);
+          room = omega (arith, d.room, d.counts, a.room, b);
           counts = omega (arith, d.counts, a.counts, a.within);
           full = tt;
-        })
+        }
 
-    pub along_more : (n : ℕ) → r.size ≡ Some n → Along m₀ l₀ i at₀ p₀ l' p' r.machine (at + n)
+    pub along_more : (n : ℕ) → size ≡ Some n → Along m₀ l₀ i at₀ p₀ l' p' m' (at + n)
     along_more n z =
         let fits : (4 ≤ n) × (n ≤ length part) = simp z at d.size_is in
         let in-part : n ≤ length i - at = simp (e, length-drop) at fits.1 in

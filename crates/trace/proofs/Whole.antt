@@ -2,7 +2,7 @@
 use Rattle.std.proofs.Common.{ℕ, ◌+◌, ◌*◌, ◌≤◌, ◌<◌, ◌≡◌, List, [], ◌++◌, length, drop, sym, ap, subst, ◌∙◌, length-append, arith}
 use mathlib.Core.List.{append-nil}
 use borrow.Author.Tests.{le-leb, lt-leb}
-use Rattle.std.specs.Prelude.{None, Some}
+use Rattle.std.specs.Prelude.{Option, None, Some}
 use Rattle.rules.specs.Small.{Octets}
 use Rattle.rules.specs.State.{Lists}
 use Rattle.text.specs.declared.page.Page.{Page}
@@ -11,9 +11,8 @@ use Rattle.text.specs.Text.{head_text, long_text}
 use Rattle.machine.specs.declared.Machine.{Machine}
 use Rattle.machine.specs.Machine.{fresh_machine}
 use Rattle.machine.specs.Sane.{Ready}
-use Rattle.trace.specs.declared.rows.Ran.{Ran}
 use Rattle.trace.specs.Trace.{trace_of, text_of}
-use Rattle.trace.specs.Run.{Full, RanFrom, joined, Pieces, last, more}
+use Rattle.trace.specs.Run.{RanFrom, joined, Pieces, last, more}
 
 -- ---- the first machine
 
@@ -34,30 +33,22 @@ fresh-ready l o = record {
 
 -- ---- progress
 
-module _ (m : Machine) (l : Lists) (i : List ℕ) (at : ℕ) (p : Page) (l' : Lists) (p' : Page) (r : Ran) (d : RanFrom m l i at p l' p' r) where
-  -- why a stretch stopped that is not the last one
-  pub stopped : (at' : ℕ) → r.rest ≡ Some at' → Full m i at p p' r.machine at'
-  stopped at' e = simp e at d.full
+module _ (m : Machine) (l : Lists) (i : List ℕ) (at : ℕ) (p : Page) (m' : Machine) (l' : Lists) (p' : Page) where
+  -- with room for a row and the last line, a stretch that is not the last one takes input
+  pub progress : (at' : ℕ) → RanFrom m l i at p m' l' p' (Some at') → length (written p) + 172 ≤ capacity p → at < at'
+  progress at' d h = let f = d.full in omega (arith, f.stops, f.rows, f.moves)
 
-  -- with room for a row and the last line, such a stretch takes input
-  pub progress : (at' : ℕ) → length (written p) + 172 ≤ capacity p → r.rest ≡ Some at' → at < at'
-  progress at' h e = let f = stopped at' e in omega (arith, f.stops, f.rows, f.moves)
-
-  -- what a piece leaves of the text
-  pub left-more : (at' : ℕ) → r.rest ≡ Some at' → written p' ++ trace_of r.machine l' (drop at' i) ≡ written p ++ trace_of m l (drop at i)
-  left-more at' e = simp e at d.text
-
-  pub left_none : r.rest ≡ None → written p' ≡ written p ++ trace_of m l (drop at i)
-  left_none e = let t : written p' ++ [] ≡ written p ++ trace_of m l (drop at i) = simp e at d.text in sym (append-nil (written p')) ∙ t
+  pub left_none : RanFrom m l i at p m' l' p' None → written p' ≡ written p ++ trace_of m l (drop at i)
+  left_none d = sym (append-nil (written p')) ∙ d.text
 
 -- ---- the pieces in order are the whole
 
 pub pieces_text : {i : List ℕ} {m : Machine} {l : Lists} {at : ℕ} {p : Page} {cs : List (List ℕ)} → Pieces i m l at p cs
     → joined cs ≡ written p ++ trace_of m l (drop at i)
 unfolding joined
-pieces_text {i} {m} {l} {at} {p} (last {l' = l'} {p' = p'} {r = r} d e) = append-nil (written p') ∙ left_none m l i at p l' p' r d e
-pieces_text {i} {m} {l} {at} {p} (more {at' = at'} {l' = l'} {p' = p'} {r = r} d e n k) =
-    ap (λ (x : List ℕ). written p' ++ x) (pieces_text k ∙ ap (λ (x : List ℕ). x ++ trace_of r.machine l' (drop at' i)) n) ∙ left-more m l i at p l' p' r d at' e
+pieces_text {i} {m} {l} {at} {p} (last {m' = m'} {l' = l'} {p' = p'} d) = append-nil (written p') ∙ left_none m l i at p m' l' p' d
+pieces_text {i} (more {m' = m'} {l' = l'} {at' = at'} {p' = p'} d n k) =
+    ap (λ (x : List ℕ). written p' ++ x) (pieces_text k ∙ ap (λ (x : List ℕ). x ++ trace_of m' l' (drop at' i)) n) ∙ d.text
 
 pub text-short : (l : Lists) (i : List ℕ) → length i ≤ 65536 → text_of l i ≡ head_text ++ trace_of fresh_machine l i
 unfolding text_of
@@ -102,20 +93,19 @@ sending_first l i p m o h b e k =
       sums = omega (arith, n);
     })
 
-module _ (l₀ : Lists) (i : List ℕ) (l : Lists) (p : Page) (m : Machine) (at sent : ℕ) (s : Sending l₀ i l p m at sent)
-    (l' : Lists) (p' : Page) (r : Ran) (d : RanFrom m l i at p l' p' r) where
+module _ (l₀ : Lists) (i : List ℕ) (l : Lists) (p : Page) (m : Machine) (at sent : ℕ) (s : Sending l₀ i l p m at sent) (m' : Machine) (l' : Lists) (p' : Page) where
   -- the piece that a run left, sent
-  pub sent_fits : sent + length (written p') < 18446744073709551616
-  sent_fits = omega (arith, s.sums, s.short, d.room, d.counts)
+  pub sent_fits : (rest : Option ℕ) → RanFrom m l i at p m' l' p' rest → sent + length (written p') < 18446744073709551616
+  sent_fits rest d = omega (arith, s.sums, s.short, d.room, d.counts)
 
-  pub sending_more : (at' : ℕ) (next : Page) → r.rest ≡ Some at' → written next ≡ [] → capacity next ≡ capacity p'
-      → Sending l₀ i l' next r.machine at' (sent + length (written p'))
-  sending_more at' next e k c =
-      let f = stopped m l i at p l' p' r d at' e in
-      let t : length (written p') + length (trace_of r.machine l' (drop at' i)) ≡ length (written p ++ trace_of m l (drop at i))
-      = sym (length-append (written p') (trace_of r.machine l' (drop at' i))) ∙ ap length (left-more m l i at p l' p' r d at' e) in
-      let total : sent + length (written p') + length (trace_of r.machine l' (drop at' i)) ≡ length (text_of l₀ i) = omega (arith, s.total) in
-      let same : length (written next ++ trace_of r.machine l' (drop at' i)) ≡ length (trace_of r.machine l' (drop at' i)) = simp k in
+  pub sending_more : (at' : ℕ) (next : Page) → RanFrom m l i at p m' l' p' (Some at') → written next ≡ [] → capacity next ≡ capacity p'
+      → Sending l₀ i l' next m' at' (sent + length (written p'))
+  sending_more at' next d k c =
+      let f = d.full in
+      let t : length (written p') + length (trace_of m' l' (drop at' i)) ≡ length (written p ++ trace_of m l (drop at i))
+      = sym (length-append (written p') (trace_of m' l' (drop at' i))) ∙ ap length d.text in
+      let total : sent + length (written p') + length (trace_of m' l' (drop at' i)) ≡ length (text_of l₀ i) = omega (arith, s.total) in
+      let same : length (written next ++ trace_of m' l' (drop at' i)) ≡ length (trace_of m' l' (drop at' i)) = simp k in
       let none : length (written next) ≡ 0 = ap length k in
       record {
         total = omega (arith, total, same);
@@ -128,7 +118,7 @@ module _ (l₀ : Lists) (i : List ℕ) (l : Lists) (p : Page) (m : Machine) (at 
       }
 
   -- the last piece: all is sent
-  pub sending_last : r.rest ≡ None → sent + length (written p') ≡ length (text_of l₀ i)
-  sending_last e =
-      let t = ap length (left_none m l i at p l' p' r d e) in
+  pub sending_last : RanFrom m l i at p m' l' p' None → sent + length (written p') ≡ length (text_of l₀ i)
+  sending_last d =
+      let t = ap length (left_none m l i at p m' l' p' d) in
       omega (arith, t, s.total)
