@@ -1,6 +1,6 @@
 -- A whole record lies within the input. Assumes nothing.
-use Rattle.std.proofs.Common.{ℕ, ◌≡◌, ◌≤◌, ◌⊎◌, inl, inr, List, length, length-take, length-drop, refl, arith}
-use Rattle.std.specs.Prelude.{Option, None, Some, ltb, ◌+◌}
+use Rattle.std.proofs.Common.{ℕ, ◌≤◌, List, length, length-take, length-drop, arith}
+use Rattle.std.specs.Prelude.{Option, ltb, ◌+◌}
 use borrow.Author.Tests.{ltb-false}
 use Rattle.rules.proofs.Tests.{choice}
 use Rattle.request.specs.Bytes.{u16_at}
@@ -13,8 +13,3 @@ frame_fits l =
   where
     Fits : Option Frame → Type 0
     Fits f = frame_size f ≤ length l
-
--- no record takes fewer than 4 bytes
-pub frame_least : (f : Option Frame) → (frame_size f ≡ 0) ⊎ (4 ≤ frame_size f)
-frame_least None = inl refl
-frame_least (Some f) = inr (omega arith)

@@ -1,7 +1,6 @@
 -- The text of an input, one record at a time; what a stretch of records leaves of it. Assumes nothing.
-use Rattle.std.proofs.Common.{ℕ, zero, suc, ◌+◌, ◌-◌, ◌*◌, ◌≤◌, ◌<◌, ◌≡◌, List, [], ◌∷◌, ◌++◌, length, drop, refl, sym, ap, subst, ◌∙◌, append_assoc, length-drop, arith}
+use Rattle.std.proofs.Common.{ℕ, zero, suc, ◌+◌, ◌*◌, ◌≤◌, ◌<◌, ◌≡◌, List, [], ◌∷◌, ◌++◌, length, drop, refl, sym, ap, subst, ◌∙◌, append_assoc, length-drop, arith}
 use mathlib.Core.List.{append-nil}
-use lib.Seq.{drop-drop}
 use Rattle.std.specs.Prelude.{Option, None, Some, IfSome}
 use Rattle.rules.specs.Small.{Octets}
 use Rattle.rules.specs.State.{Lists}
@@ -94,17 +93,6 @@ pub record Along (m₀ : Machine) (l₀ : Lists) (i : List ℕ) (at₀ : ℕ) (p
   pub fits : length (written p) + 46 ≤ capacity p₀
 
 module _ (m₀ : Machine) (l₀ : Lists) (i : List ℕ) (at₀ : ℕ) (p₀ : Page) (l : Lists) (p : Page) (m : Machine) (at : ℕ) (a : Along m₀ l₀ i at₀ p₀ l p m at) where
-  -- no room is left
-  pub along_stops : capacity p < length (written p) + 172 → RanFrom m₀ l₀ i at₀ p₀ m l p (Some at)
-  along_stops h = record {
-    text = a.text;
-    same-capacity = a.same-capacity;
-    ready = a.ready;
-    room = omega (arith, a.room);
-    counts = omega (arith, a.counts, a.within);
-    full = record { stops = omega (arith, h, a.same-capacity); rows = a.room; counts = a.counts; moves = a.moves; within = a.within };
-  }
-
   -- no record is left: the last line
   pub along_last : (p' : Page) → length i ≤ at → written p' ≡ written p ++ end_of m → capacity p' ≡ capacity p
       → length (written p') ≤ length (written p) + 46 → RanFrom m₀ l₀ i at₀ p₀ m l p' None
@@ -117,39 +105,3 @@ module _ (m₀ : Machine) (l₀ : Lists) (i : List ℕ) (at₀ : ℕ) (p₀ : Pa
     counts = omega (arith, a.counts, a.within);
     full = tt;
   }
-
-  module _ (part : List ℕ) (m' : Machine) (l' : Lists) (p' : Page) (size : Option ℕ) (e : part ≡ drop at i) (d : Advanced m l part p m' l' p' size)
-      (h : length (written p) + 172 ≤ capacity p) where
-    moved-text : written p' ++ next_of size m' l' (drop at i) ≡ written p₀ ++ trace_of m₀ l₀ (drop at₀ i)
-    moved-text =
-        ap (λ (x : List ℕ). written p' ++ next_of size m' l' x) (sym e) ∙ d.text
-        ∙ ap (λ (x : List ℕ). written p ++ trace_of m l x) e ∙ a.text
-
-    -- a bad record: the last line
-    pub along_ends : (p'' : Page) → size ≡ None → written p'' ≡ written p' ++ end_of m' → capacity p'' ≡ capacity p'
-        → length (written p'') ≤ length (written p') + 46 → RanFrom m₀ l₀ i at₀ p₀ m' l' p'' None
-    along_ends p'' z w c b =
-        let t : written p' ++ end_of m' ≡ written p₀ ++ trace_of m₀ l₀ (drop at₀ i) = simp z at moved-text in
-        record {
-          text = append-nil (written p'') ∙ w ∙ t;
-          same-capacity = c ∙ d.same-capacity ∙ a.same-capacity;
-          ready = d.ready;
-          room = omega (arith, d.room, d.counts, a.room, b);
-          counts = omega (arith, d.counts, a.counts, a.within);
-          full = tt;
-        }
-
-    pub along_more : (n : ℕ) → size ≡ Some n → Along m₀ l₀ i at₀ p₀ l' p' m' (at + n)
-    along_more n z =
-        let fits : (4 ≤ n) × (n ≤ length part) = simp z at d.size_is in
-        let in-part : n ≤ length i - at = simp (e, length-drop) at fits.1 in
-        record {
-          text = simp (z, drop-drop) at moved-text;
-          same-capacity = d.same-capacity ∙ a.same-capacity;
-          ready = d.ready;
-          within = omega (arith, a.within, fits.0);
-          counts = omega (arith, d.counts, a.counts, fits.0);
-          moves = omega (arith, d.counts, a.moves, fits.0);
-          room = omega (arith, d.room, d.counts, a.room);
-          fits = omega (arith, d.room, h, a.same-capacity);
-        }

@@ -1,8 +1,8 @@
 -- What is written piece by piece is the whole text, and a stretch of records always gets on. Assumes nothing.
-use Rattle.std.proofs.Common.{ℕ, ◌+◌, ◌*◌, ◌≤◌, ◌<◌, ◌≡◌, List, [], ◌++◌, length, drop, sym, ap, subst, ◌∙◌, length-append, arith}
+use Rattle.std.proofs.Common.{ℕ, ◌+◌, ◌*◌, ◌≤◌, ◌<◌, ◌≡◌, List, ◌++◌, length, drop, sym, ap, subst, ◌∙◌, arith}
 use mathlib.Core.List.{append-nil}
 use borrow.Author.Tests.{le-leb, lt-leb}
-use Rattle.std.specs.Prelude.{Option, None, Some}
+use Rattle.std.specs.Prelude.{None, Some}
 use Rattle.rules.specs.Small.{Octets}
 use Rattle.rules.specs.State.{Lists}
 use Rattle.text.specs.declared.page.Page.{Page}
@@ -92,33 +92,3 @@ sending_first l i p m o h b e k =
       fits = omega (arith, n);
       sums = omega (arith, n);
     })
-
-module _ (l₀ : Lists) (i : List ℕ) (l : Lists) (p : Page) (m : Machine) (at sent : ℕ) (s : Sending l₀ i l p m at sent) (m' : Machine) (l' : Lists) (p' : Page) where
-  -- the piece that a run left, sent
-  pub sent_fits : (rest : Option ℕ) → RanFrom m l i at p m' l' p' rest → sent + length (written p') < 18446744073709551616
-  sent_fits rest d = omega (arith, s.sums, s.short, d.room, d.counts)
-
-  pub sending_more : (at' : ℕ) (next : Page) → RanFrom m l i at p m' l' p' (Some at') → written next ≡ [] → capacity next ≡ capacity p'
-      → Sending l₀ i l' next m' at' (sent + length (written p'))
-  sending_more at' next d k c =
-      let f = d.full in
-      let t : length (written p') + length (trace_of m' l' (drop at' i)) ≡ length (written p ++ trace_of m l (drop at i))
-      = sym (length-append (written p') (trace_of m' l' (drop at' i))) ∙ ap length d.text in
-      let total : sent + length (written p') + length (trace_of m' l' (drop at' i)) ≡ length (text_of l₀ i) = omega (arith, s.total) in
-      let same : length (written next ++ trace_of m' l' (drop at' i)) ≡ length (trace_of m' l' (drop at' i)) = simp k in
-      let none : length (written next) ≡ 0 = ap length k in
-      record {
-        total = omega (arith, total, same);
-        ready = d.ready;
-        counts = f.counts;
-        within = f.within;
-        short = s.short;
-        fits = omega (arith, s.fits, c, d.same-capacity, none);
-        sums = omega (arith, s.sums, f.rows, none);
-      }
-
-  -- the last piece: all is sent
-  pub sending_last : RanFrom m l i at p m' l' p' None → sent + length (written p') ≡ length (text_of l₀ i)
-  sending_last d =
-      let t = ap length (left_none m l i at p m' l' p' d) in
-      omega (arith, t, s.total)
