@@ -3,7 +3,8 @@ use Rattle.std.proofs.Common.{rules, arith, ◌∙◌, ◌-◌, ◌≤◌, ◌�
 use Rattle.rules.specs.Said.{says}
 use Rattle.rules.specs.Reads.{children}
 use Rattle.rules.specs.Lent.{lists_of}
-use Rattle.save.proofs.Forms.{seen, length-fits, form-deep, measured_buffer, measured_number, measured_refused, measured_full, measured_first, measured_rest, measured_pair}
+use Rattle.save.proofs.Forms.{seen, length-fits, form-deep, measured_buffer, measured_number}
+use Rattle.save.proofs.Forms.{measured_refused, measured_full, measured_first, measured_rest, measured_pair}
 use Rattle.save.proofs.+measure.Goals as goal
 
 pub returns-in_err-need : goal.returns-in_err-need
@@ -21,14 +22,16 @@ returns-in_err-start t c =
 pub returns-in_err-need-in-Pair : goal.returns-in_err-need-in-Pair
 returns-in_err-need-in-Pair t c =
     let a = c.args in
-    let p = seen a.a.now (lists_of a.lists) a.n (says (children c.in-Pair.first c.in-Pair.rest)) c.requires.sound (rw c.in-Pair.is at c.in_ok-start.ensures.value) in
+    let p = seen a.a.now (lists_of a.lists) a.n (says (children c.in-Pair.first c.in-Pair.rest)) c.requires.sound (rw c.in-Pair.is at
+    c.in_ok-start.ensures.value) in
     rw (← measured_full a.a.now (lists_of a.lists) a.levels a.room a.n (grind (arith, c.in_ok-need.ensures)) c.in-Pair.first c.in-Pair.rest p
     (grind (arith, c.in_err-need-in-Pair.ensures))) (search rules)
 
 pub returns-in_err-one-in-Pair : goal.returns-in_err-one-in-Pair
 returns-in_err-one-in-Pair t c =
     let a = c.args in
-    let p = seen a.a.now (lists_of a.lists) a.n (says (children c.in-Pair.first c.in-Pair.rest)) c.requires.sound (rw c.in-Pair.is at c.in_ok-start.ensures.value) in
+    let p = seen a.a.now (lists_of a.lists) a.n (says (children c.in-Pair.first c.in-Pair.rest)) c.requires.sound (rw c.in-Pair.is at
+    c.in_ok-start.ensures.value) in
     rw (← measured_first a.a.now (lists_of a.lists) a.levels a.room a.n (grind (arith, c.in_ok-need.ensures)) c.in-Pair.first c.in-Pair.rest p _ _
     (grind (arith, c.in_ok-need-in-Pair.ensures)) c.in_err-one-in-Pair.ensures) (search rules)
 
@@ -39,20 +42,28 @@ overflow_sub-left-in-Pair t c =
 pub returns-in_err-other-in-Pair : goal.returns-in_err-other-in-Pair
 returns-in_err-other-in-Pair t c =
     let a = c.args in
-    let p = seen a.a.now (lists_of a.lists) a.n (says (children c.in-Pair.first c.in-Pair.rest)) c.requires.sound (rw c.in-Pair.is at c.in_ok-start.ensures.value) in
-    rw (← measured_rest a.a.now (lists_of a.lists) a.levels a.room a.n (grind (arith, c.in_ok-need.ensures)) c.in-Pair.first c.in-Pair.rest p _ _ c.in_ok-one-in-Pair.one
+    let p = seen a.a.now (lists_of a.lists) a.n (says (children c.in-Pair.first c.in-Pair.rest)) c.requires.sound (rw c.in-Pair.is at
+    c.in_ok-start.ensures.value) in
+    rw (← measured_rest a.a.now (lists_of a.lists) a.levels a.room a.n (grind (arith, c.in_ok-need.ensures)) c.in-Pair.first c.in-Pair.rest p _ _
+    c.in_ok-one-in-Pair.one
     (grind (arith, c.in_ok-need-in-Pair.ensures)) c.in_ok-one-in-Pair.ensures c.in_err-other-in-Pair.ensures) (search rules)
 
 pub overflow_add-result : goal.overflow_add-result
 overflow_add-result t c =
     let a = c.args in
-    omega (arith, length-fits a.a.now (lists_of a.lists) (a.levels - 1) (a.room - 1) c.in-Pair.first c.in_ok-one-in-Pair.one c.in_ok-one-in-Pair.ensures, c.ranges.room)
+    omega (
+      arith,
+      length-fits a.a.now (lists_of a.lists) (a.levels - 1) (a.room - 1) c.in-Pair.first c.in_ok-one-in-Pair.one
+          c.in_ok-one-in-Pair.ensures,
+      c.ranges.room,
+    )
 
 pub overflow_add-result-in-Pair : goal.overflow_add-result-in-Pair
 overflow_add-result-in-Pair t c =
     let a = c.args in
     let one = length-fits a.a.now (lists_of a.lists) (a.levels - 1) (a.room - 1) c.in-Pair.first c.in_ok-one-in-Pair.one c.in_ok-one-in-Pair.ensures in
-    let other = length-fits a.a.now (lists_of a.lists) (a.levels - 1) (a.room - 1 - c.in_ok-one-in-Pair.one) c.in-Pair.rest c.in_ok-other-in-Pair.other c.in_ok-other-in-Pair.ensures in
+    let other = length-fits a.a.now (lists_of a.lists) (a.levels - 1) (a.room - 1 - c.in_ok-one-in-Pair.one) c.in-Pair.rest
+    c.in_ok-other-in-Pair.other c.in_ok-other-in-Pair.ensures in
     let some : (a.room ≡ 0 → ⊥) = grind (arith, c.in_ok-need-in-Pair.ensures) in
     omega (arith, one, other, c.ranges.room, some)
 
@@ -74,6 +85,7 @@ returns-in-U32 t c =
 pub returns-in_ok-other-in-Pair : goal.returns-in_ok-other-in-Pair
 returns-in_ok-other-in-Pair t c =
     let a = c.args in
-    let p = seen a.a.now (lists_of a.lists) a.n (says (children c.in-Pair.first c.in-Pair.rest)) c.requires.sound (rw c.in-Pair.is at c.in_ok-start.ensures.value) in
+    let p = seen a.a.now (lists_of a.lists) a.n (says (children c.in-Pair.first c.in-Pair.rest)) c.requires.sound (rw c.in-Pair.is at
+    c.in_ok-start.ensures.value) in
     measured_pair a.a.now (lists_of a.lists) a.levels a.room a.n (grind (arith, c.in_ok-need.ensures)) c.in-Pair.first c.in-Pair.rest p
     c.in_ok-one-in-Pair.one c.in_ok-other-in-Pair.other (grind (arith, c.in_ok-need-in-Pair.ensures)) c.in_ok-one-in-Pair.ensures c.in_ok-other-in-Pair.ensures

@@ -59,8 +59,10 @@ put-requires t c =
     let m = c.put-mid in
     let p = seen a.a.now (lists_of a.lists) a.n (says (children b.first b.rest)) c.requires.sound (rw b.field-0-is at b.ensures.value) in
     let some = some_level a.a.now (lists_of a.lists) a.levels (length a.file.now - a.at) a.n c.requires.fits.1 in
-    let room = rest_room a.a.now (lists_of a.lists) a.levels a.n a.file.now a.at c.requires.fits.1 b.first b.rest p m.new.file m.result m.ensures.written m.ensures.end in
-    let fits = rest_accepted a.a.now (lists_of a.lists) a.levels a.n a.file.now a.at c.requires.fits.1 b.first b.rest p m.new.file m.result m.ensures.written m.ensures.end in
+    let room = rest_room a.a.now (lists_of a.lists) a.levels a.n a.file.now a.at c.requires.fits.1 b.first b.rest p m.new.file m.result
+    m.ensures.written m.ensures.end in
+    let fits = rest_accepted a.a.now (lists_of a.lists) a.levels a.n a.file.now a.at c.requires.fits.1 b.first b.rest p m.new.file m.result
+    m.ensures.written m.ensures.end in
     (omega (arith, some, c.decreases), (c.requires.sound, (c.requires.lent, (room, fits))))
 
 pub returns-in-Ok-Buffer : goal.returns-in-Ok-Buffer
@@ -86,7 +88,12 @@ returns-in-Ok-Pair t c =
     let b = c.in-Ok-Pair in
     let m = c.put-mid in
     let p = seen a.a.now (lists_of a.lists) a.n (says (children b.first b.rest)) c.requires.sound (rw b.field-0-is at b.ensures.value) in
-    record { written = pair_put a.a.now (lists_of a.lists) a.levels a.n a.file.now a.at c.requires.fits.1 b.first b.rest p m.new.file m.result m.ensures.written m.ensures.end c.put.new.file c.put.ensures.written; end = pair-next a.a.now (lists_of a.lists) a.levels a.n a.file.now a.at c.requires.fits.1 b.first b.rest p m.new.file m.result m.ensures.written m.ensures.end c.put.result c.put.ensures.end }
+    record {
+      written = pair_put a.a.now (lists_of a.lists) a.levels a.n a.file.now a.at c.requires.fits.1 b.first b.rest p
+          m.new.file m.result m.ensures.written m.ensures.end c.put.new.file c.put.ensures.written;
+      end = pair-next a.a.now (lists_of a.lists) a.levels a.n a.file.now a.at c.requires.fits.1 b.first b.rest p m.new.file m.result m.ensures.written
+          m.ensures.end c.put.result c.put.ensures.end;
+    }
 
 pub returns-in-Err : goal.returns-in-Err
 returns-in-Err t c =
