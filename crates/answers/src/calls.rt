@@ -5,6 +5,7 @@ use super::{lent, seen};
 use clvm_allocator::{c_concat, c_creates, c_load, c_node, c_reads, c_restores, c_save, c_state};
 use compare::lists::Lists;
 use script::call::{Call, Plain, Transparent};
+use script::kind::{OfAmount, OfNode, OfRecord};
 use script::line::Answer;
 use std::alloc::{AllocError, Global};
 
@@ -46,6 +47,18 @@ fn node(a: &LentRecord, lists: &Lists, n: u32) -> Answer {
     let starts = lists.starts.part();
     let ends = lists.ends.part();
     c_reads::clvm_node(a, starts, ends, lists.firsts.part(), lists.rests.part(), n).seen()
+}
+
+fn atom_len(a: &LentRecord, lists: &Lists, n: u32) -> Answer {
+    c_reads::clvm_atom_len(a, lists.starts.part(), lists.ends.part(), n).seen()
+}
+
+fn sexp(a: &LentRecord, lists: &Lists, n: u32) -> Answer {
+    c_reads::clvm_sexp(a, lists.firsts.part(), lists.rests.part(), n).seen()
+}
+
+fn next(a: &LentRecord, lists: &Lists, n: u32) -> Answer {
+    c_reads::clvm_next(a, lists.firsts.part(), lists.rests.part(), n).seen()
 }
 
 fn status(a: &LentRecord, lists: &Lists, used: &Transparent, n: u32) -> Answer {
@@ -156,6 +169,46 @@ fn new_concat(a: &mut LentRecord, lists: &mut Lists, size: usize, nodes: &[u32])
     c_concat::clvm_new_concat(a, bytes, starts, lists.ends.part_mut(), size, nodes).seen()
 }
 
+fn of_node(which: &OfNode, n: u32, a: &mut LentRecord, lists: &mut Lists) -> Answer {
+    match which {
+        OfNode::ObjectType => c_node::clvm_object_type(n).seen(),
+        OfNode::Index => c_node::clvm_index(n).seen(),
+        OfNode::IsAtom => c_node::clvm_is_atom(n).seen(),
+        OfNode::IsPair => c_node::clvm_is_pair(n).seen(),
+        OfNode::LenForValue => seen::plain(c_node::clvm_len_for_value(n) as u64),
+        OfNode::NewSmallNumber => c_creates::clvm_new_small_number(a, n).seen(),
+        OfNode::Save => save(a, lists, n),
+        OfNode::AtomLen => atom_len(a, lists, n),
+        OfNode::SmallNumber => small_number(a, lists, n),
+        OfNode::Node => node(a, lists, n),
+        OfNode::Sexp => sexp(a, lists, n),
+        OfNode::Next => next(a, lists, n),
+    }
+}
+
+fn of_record(which: &OfRecord, a: &LentRecord, lists: &Lists) -> Answer {
+    match which {
+        OfRecord::AtomCount => c_state::clvm_atom_count(a).seen(),
+        OfRecord::AllocatedAtomCount => c_state::clvm_allocated_atom_count(a).seen(),
+        OfRecord::PairCount => c_state::clvm_pair_count(a).seen(),
+        OfRecord::AllocatedPairCount => c_state::clvm_allocated_pair_count(a).seen(),
+        OfRecord::HeapSize => c_state::clvm_heap_size(a).seen(),
+        OfRecord::AllocatedHeapSize => c_state::clvm_allocated_heap_size(a).seen(),
+        OfRecord::Checkpoint => checkpoint(a),
+        OfRecord::TransparentCheckpoint => transparent_checkpoint(a),
+        OfRecord::WellFormed => well_formed(a, lists),
+    }
+}
+
+fn of_amount(which: &OfAmount, amount: usize, a: &mut LentRecord) -> Answer {
+    match which {
+        OfAmount::NewLimited => c_state::clvm_new_limited(a, amount).seen(),
+        OfAmount::AddGhostPair => c_creates::clvm_add_ghost_pair(a, amount).seen(),
+        OfAmount::RemoveGhostPair => c_creates::clvm_remove_ghost_pair(a, amount).seen(),
+        OfAmount::AddGhostAtom => c_creates::clvm_add_ghost_atom(a, amount).seen(),
+    }
+}
+
 /// What a call answers.
 pub fn made(
     alloc: Global,
@@ -164,39 +217,15 @@ pub fn made(
     lists: &mut Lists,
 ) -> Result<Answer, AllocError> {
     Ok(match call {
-        Call::ObjectType(n) => c_node::clvm_object_type(*n).seen(),
-        Call::Index(n) => c_node::clvm_index(*n).seen(),
-        Call::IsAtom(n) => c_node::clvm_is_atom(*n).seen(),
-        Call::IsPair(n) => c_node::clvm_is_pair(*n).seen(),
+        Call::Node(which, n) => of_node(which, *n, a, lists),
+        Call::Record(which) => of_record(which, a, lists),
+        Call::Amount(which, amount) => of_amount(which, *amount, a),
         Call::FitsInSmallAtom(v) => c_node::clvm_fits_in_small_atom(&v.to_vec(alloc)?).seen(),
-        Call::LenForValue(x) => seen::plain(c_node::clvm_len_for_value(*x) as u64),
-        Call::NewLimited(limit) => c_state::clvm_new_limited(a, *limit).seen(),
-        Call::AtomCount => c_state::clvm_atom_count(a).seen(),
-        Call::AllocatedAtomCount => c_state::clvm_allocated_atom_count(a).seen(),
-        Call::PairCount => c_state::clvm_pair_count(a).seen(),
-        Call::AllocatedPairCount => c_state::clvm_allocated_pair_count(a).seen(),
-        Call::HeapSize => c_state::clvm_heap_size(a).seen(),
-        Call::AllocatedHeapSize => c_state::clvm_allocated_heap_size(a).seen(),
-        Call::Checkpoint => checkpoint(a),
-        Call::TransparentCheckpoint => transparent_checkpoint(a),
-        Call::NewSmallNumber(x) => c_creates::clvm_new_small_number(a, *x).seen(),
-        Call::AddGhostPair(n) => c_creates::clvm_add_ghost_pair(a, *n).seen(),
-        Call::RemoveGhostPair(n) => c_creates::clvm_remove_ghost_pair(a, *n).seen(),
-        Call::AddGhostAtom(n) => c_creates::clvm_add_ghost_atom(a, *n).seen(),
         Call::RestoreCheckpoint(k) => restore(a, lists, k),
         Call::RestoreTransparentCheckpoint(k) => restore_transparent(a, lists, k),
-        Call::Save(n) => save(a, lists, *n),
         Call::CheckpointNodeStatus(k, n) => status(a, lists, k, *n),
         Call::AtomEq(left, right) => atom_eq(a, lists, *left, *right),
         Call::Atom(n, length) => atom(a, lists, *n, *length),
-        Call::AtomLen(n) => {
-            c_reads::clvm_atom_len(a, lists.starts.part(), lists.ends.part(), *n).seen()
-        }
-        Call::SmallNumber(n) => small_number(a, lists, *n),
-        Call::Node(n) => node(a, lists, *n),
-        Call::Sexp(n) => c_reads::clvm_sexp(a, lists.firsts.part(), lists.rests.part(), *n).seen(),
-        Call::Next(n) => c_reads::clvm_next(a, lists.firsts.part(), lists.rests.part(), *n).seen(),
-        Call::WellFormed => well_formed(a, lists),
         Call::MaybeRestoreWithNode(k, n) => maybe_restore(a, lists, k, *n),
         Call::NewPair(first, rest) => new_pair(a, lists, *first, *rest),
         Call::Load(length) => load(a, lists, *length),

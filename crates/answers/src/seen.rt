@@ -91,7 +91,10 @@ impl Seen for CLoaded {
 
 /// The part of an atom, with the scratch that it may lie in: at most eight bytes, as a big-endian number.
 pub fn part(part: CPart, scratch: &[u8]) -> Answer {
-    let number = scratch.iter().fold(0u64, |n, b| n << 8 | u64::from(*b));
+    let mut number: u64 = 0;
+    for b in scratch {
+        number = (number << 8) | u64::from(*b);
+    }
     let shown = [
         u64::from(part.place),
         part.offset as u64,

@@ -165,19 +165,18 @@ impl Course {
         self.page.call_line = self.page.line;
         self.page.call.clear();
         self.page.call.extend_from_slice(text)?;
-        let (kind, _, values) = *asked.row;
         if came != asked.answer || record != asked.record.unwrap_or(self.record) {
             let changed = if record == self.record {
                 None
             } else {
                 Some(record)
             };
-            return Err(Fault::Answered(came, values, changed));
+            return Err(Fault::Answered(came, asked.values, changed));
         }
         self.record = record;
         self.is_pending = true;
         self.page.calls = self.page.calls.saturating_add(1);
-        self.tally.count(kind, came.code);
+        self.tally.count(asked.row, came.code);
         Ok(())
     }
 

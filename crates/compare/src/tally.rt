@@ -1,5 +1,5 @@
 // How often each call answered each code.
-use script::kind::{CALLS, Kind};
+use script::kind::CALLS;
 use std::alloc::{AllocError, Global};
 use std::io;
 use std::io::Write;
@@ -20,8 +20,8 @@ impl Tally {
     }
 
     /// One more answer. A code that there is not is counted as the last.
-    pub fn count(&mut self, kind: Kind, code: u64) {
-        if let Some(codes) = self.calls.get_mut(kind as usize) {
+    pub fn count(&mut self, row: usize, code: u64) {
+        if let Some(codes) = self.calls.get_mut(row) {
             let code = (code as usize).min(CODES - 1);
             codes[code] = codes[code].saturating_add(1);
         }

@@ -1,5 +1,5 @@
 // A call with its arguments.
-use super::kind::Kind;
+use super::kind::{Kind, OfAmount, OfNode, OfRecord};
 use super::part::Pattern;
 use super::words::{Unread, Words};
 use super::{BYTES, SCRATCH};
@@ -10,39 +10,18 @@ pub type Plain = [u64; 6];
 
 pub type Transparent = [u64; 3];
 
+/// The groups of `Kind`, and then the calls that are handed something else.
 #[derive(Drop)]
 pub enum Call<'a> {
-    ObjectType(u32),
-    Index(u32),
-    IsAtom(u32),
-    IsPair(u32),
+    Node(OfNode, u32),
+    Record(OfRecord),
+    Amount(OfAmount, usize),
     FitsInSmallAtom(Pattern<'a>),
-    LenForValue(u32),
-    NewLimited(usize),
-    AtomCount,
-    AllocatedAtomCount,
-    PairCount,
-    AllocatedPairCount,
-    HeapSize,
-    AllocatedHeapSize,
-    Checkpoint,
-    TransparentCheckpoint,
-    NewSmallNumber(u32),
-    AddGhostPair(usize),
-    RemoveGhostPair(usize),
-    AddGhostAtom(usize),
     RestoreCheckpoint(Plain),
     RestoreTransparentCheckpoint(Transparent),
-    Save(u32),
     CheckpointNodeStatus(Transparent, u32),
     AtomEq(u32, u32),
     Atom(u32, usize),
-    AtomLen(u32),
-    SmallNumber(u32),
-    Node(u32),
-    Sexp(u32),
-    Next(u32),
-    WellFormed,
     MaybeRestoreWithNode(Transparent, u32),
     NewPair(u32, u32),
     Load(usize),
@@ -59,8 +38,7 @@ fn signed(words: &mut Words<'_>) -> Result<i64, Unread> {
     let size = words.number()?;
     match sign {
         0 => Ok(i64::try_from(size)?),
-        1 if size == 1 << 63 => Ok(i64::MIN),
-        1 if size > 0 => Ok(-i64::try_from(size)?),
+        1 if size > 0 && size <= 1 << 63 => Ok(size.wrapping_neg().cast_signed()),
         _ => Err(Unread::NotUnderstood),
     }
 }
@@ -91,41 +69,19 @@ impl<'a> Call<'a> {
         above: u64,
     ) -> Result<Call<'a>, Unread> {
         Ok(match kind {
-            Kind::ObjectType => Call::ObjectType(words.narrow()?),
-            Kind::Index => Call::Index(words.narrow()?),
-            Kind::IsAtom => Call::IsAtom(words.narrow()?),
-            Kind::IsPair => Call::IsPair(words.narrow()?),
+            Kind::Node(which) => Call::Node(which, words.narrow()?),
+            Kind::Record(which) => Call::Record(which),
+            Kind::Amount(which) => Call::Amount(which, words.size()?),
             Kind::FitsInSmallAtom => Call::FitsInSmallAtom(Pattern::read(words)?),
-            Kind::LenForValue => Call::LenForValue(words.narrow()?),
-            Kind::NewLimited => Call::NewLimited(words.size()?),
-            Kind::AtomCount => Call::AtomCount,
-            Kind::AllocatedAtomCount => Call::AllocatedAtomCount,
-            Kind::PairCount => Call::PairCount,
-            Kind::AllocatedPairCount => Call::AllocatedPairCount,
-            Kind::HeapSize => Call::HeapSize,
-            Kind::AllocatedHeapSize => Call::AllocatedHeapSize,
-            Kind::Checkpoint => Call::Checkpoint,
-            Kind::TransparentCheckpoint => Call::TransparentCheckpoint,
-            Kind::NewSmallNumber => Call::NewSmallNumber(words.narrow()?),
-            Kind::AddGhostPair => Call::AddGhostPair(words.size()?),
-            Kind::RemoveGhostPair => Call::RemoveGhostPair(words.size()?),
-            Kind::AddGhostAtom => Call::AddGhostAtom(words.size()?),
             Kind::RestoreCheckpoint => Call::RestoreCheckpoint(words.numbers()?),
             Kind::RestoreTransparentCheckpoint => {
                 Call::RestoreTransparentCheckpoint(words.numbers()?)
             }
-            Kind::Save => Call::Save(words.narrow()?),
             Kind::CheckpointNodeStatus => {
                 Call::CheckpointNodeStatus(words.numbers()?, words.narrow()?)
             }
             Kind::AtomEq => Call::AtomEq(words.narrow()?, words.narrow()?),
             Kind::Atom => Call::Atom(words.narrow()?, words.count(SCRATCH)?),
-            Kind::AtomLen => Call::AtomLen(words.narrow()?),
-            Kind::SmallNumber => Call::SmallNumber(words.narrow()?),
-            Kind::Node => Call::Node(words.narrow()?),
-            Kind::Sexp => Call::Sexp(words.narrow()?),
-            Kind::Next => Call::Next(words.narrow()?),
-            Kind::WellFormed => Call::WellFormed,
             Kind::MaybeRestoreWithNode => {
                 Call::MaybeRestoreWithNode(words.numbers()?, words.narrow()?)
             }

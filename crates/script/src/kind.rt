@@ -1,15 +1,25 @@
 // The calls by their names.
 
-/// Which function of the C library is called.
+/// The calls that are handed a node or a value of 32 bits.
 #[derive(Clone, Copy)]
-pub enum Kind {
+pub enum OfNode {
     ObjectType,
     Index,
     IsAtom,
     IsPair,
-    FitsInSmallAtom,
     LenForValue,
-    NewLimited,
+    NewSmallNumber,
+    Save,
+    AtomLen,
+    SmallNumber,
+    Node,
+    Sexp,
+    Next,
+}
+
+/// The calls that are handed nothing.
+#[derive(Clone, Copy)]
+pub enum OfRecord {
     AtomCount,
     AllocatedAtomCount,
     PairCount,
@@ -18,22 +28,30 @@ pub enum Kind {
     AllocatedHeapSize,
     Checkpoint,
     TransparentCheckpoint,
-    NewSmallNumber,
+    WellFormed,
+}
+
+/// The calls that are handed an amount.
+#[derive(Clone, Copy)]
+pub enum OfAmount {
+    NewLimited,
     AddGhostPair,
     RemoveGhostPair,
     AddGhostAtom,
+}
+
+/// Which function of the C library is called.
+#[derive(Clone, Copy)]
+pub enum Kind {
+    Node(OfNode),
+    Record(OfRecord),
+    Amount(OfAmount),
+    FitsInSmallAtom,
     RestoreCheckpoint,
     RestoreTransparentCheckpoint,
-    Save,
     CheckpointNodeStatus,
     AtomEq,
     Atom,
-    AtomLen,
-    SmallNumber,
-    Node,
-    Sexp,
-    Next,
-    WellFormed,
     MaybeRestoreWithNode,
     NewPair,
     Load,
@@ -49,41 +67,61 @@ pub type Row = (Kind, &'static str, usize);
 
 /// The calls, in the order in which they are counted.
 pub static CALLS: [Row; 39] = [
-    (Kind::ObjectType, "object_type", 1),
-    (Kind::Index, "index", 1),
-    (Kind::IsAtom, "is_atom", 1),
-    (Kind::IsPair, "is_pair", 1),
+    (Kind::Node(OfNode::ObjectType), "object_type", 1),
+    (Kind::Node(OfNode::Index), "index", 1),
+    (Kind::Node(OfNode::IsAtom), "is_atom", 1),
+    (Kind::Node(OfNode::IsPair), "is_pair", 1),
     (Kind::FitsInSmallAtom, "fits_in_small_atom", 2),
-    (Kind::LenForValue, "len_for_value", 1),
-    (Kind::NewLimited, "new_limited", 0),
-    (Kind::AtomCount, "atom_count", 1),
-    (Kind::AllocatedAtomCount, "allocated_atom_count", 1),
-    (Kind::PairCount, "pair_count", 1),
-    (Kind::AllocatedPairCount, "allocated_pair_count", 1),
-    (Kind::HeapSize, "heap_size", 1),
-    (Kind::AllocatedHeapSize, "allocated_heap_size", 1),
-    (Kind::Checkpoint, "checkpoint", 6),
-    (Kind::TransparentCheckpoint, "transparent_checkpoint", 3),
-    (Kind::NewSmallNumber, "new_small_number", 0),
-    (Kind::AddGhostPair, "add_ghost_pair", 0),
-    (Kind::RemoveGhostPair, "remove_ghost_pair", 0),
-    (Kind::AddGhostAtom, "add_ghost_atom", 0),
+    (Kind::Node(OfNode::LenForValue), "len_for_value", 1),
+    (Kind::Amount(OfAmount::NewLimited), "new_limited", 0),
+    (Kind::Record(OfRecord::AtomCount), "atom_count", 1),
+    (
+        Kind::Record(OfRecord::AllocatedAtomCount),
+        "allocated_atom_count",
+        1,
+    ),
+    (Kind::Record(OfRecord::PairCount), "pair_count", 1),
+    (
+        Kind::Record(OfRecord::AllocatedPairCount),
+        "allocated_pair_count",
+        1,
+    ),
+    (Kind::Record(OfRecord::HeapSize), "heap_size", 1),
+    (
+        Kind::Record(OfRecord::AllocatedHeapSize),
+        "allocated_heap_size",
+        1,
+    ),
+    (Kind::Record(OfRecord::Checkpoint), "checkpoint", 6),
+    (
+        Kind::Record(OfRecord::TransparentCheckpoint),
+        "transparent_checkpoint",
+        3,
+    ),
+    (Kind::Node(OfNode::NewSmallNumber), "new_small_number", 0),
+    (Kind::Amount(OfAmount::AddGhostPair), "add_ghost_pair", 0),
+    (
+        Kind::Amount(OfAmount::RemoveGhostPair),
+        "remove_ghost_pair",
+        0,
+    ),
+    (Kind::Amount(OfAmount::AddGhostAtom), "add_ghost_atom", 0),
     (Kind::RestoreCheckpoint, "restore_checkpoint", 0),
     (
         Kind::RestoreTransparentCheckpoint,
         "restore_transparent_checkpoint",
         0,
     ),
-    (Kind::Save, "save", 1),
+    (Kind::Node(OfNode::Save), "save", 1),
     (Kind::CheckpointNodeStatus, "checkpoint_node_status", 3),
     (Kind::AtomEq, "atom_eq", 1),
     (Kind::Atom, "atom", 4),
-    (Kind::AtomLen, "atom_len", 1),
-    (Kind::SmallNumber, "small_number", 2),
-    (Kind::Node, "node", 3),
-    (Kind::Sexp, "sexp", 3),
-    (Kind::Next, "next", 3),
-    (Kind::WellFormed, "well_formed", 1),
+    (Kind::Node(OfNode::AtomLen), "atom_len", 1),
+    (Kind::Node(OfNode::SmallNumber), "small_number", 2),
+    (Kind::Node(OfNode::Node), "node", 3),
+    (Kind::Node(OfNode::Sexp), "sexp", 3),
+    (Kind::Node(OfNode::Next), "next", 3),
+    (Kind::Record(OfRecord::WellFormed), "well_formed", 1),
     (Kind::MaybeRestoreWithNode, "maybe_restore_with_node", 1),
     (Kind::NewPair, "new_pair", 0),
     (Kind::Load, "load", 1),

@@ -1,6 +1,6 @@
 // A line: what it is, with its numbers.
 use super::call::Call;
-use super::kind::{CALLS, Row};
+use super::kind::CALLS;
 use super::part::Part;
 use super::words::{Unread, Words};
 use super::{BYTES, SLOTS};
@@ -23,7 +23,9 @@ pub struct Answer {
 /// A call, and what must come of it: the record only where it changes.
 #[derive(Drop)]
 pub struct Asked<'a> {
-    pub row: &'static Row,
+    /// Which of `CALLS` it is, and how many values its answer has.
+    pub row: usize,
+    pub values: usize,
     pub call: Call<'a>,
     pub answer: Answer,
     pub record: Option<Record>,
@@ -104,9 +106,10 @@ impl<'a> Asked<'a> {
         let name = words.word()?;
         let row = CALLS
             .iter()
-            .find(|row| row.1 == name)
+            .position(|row| row.1 == name)
             .ok_or(Unread::NotUnderstood)?;
-        let call = Call::read(alloc, row.0, &mut words, above)?;
+        let (kind, _, values) = CALLS[row];
+        let call = Call::read(alloc, kind, &mut words, above)?;
         words.end()?;
         let (answer, record) = match answer.split_once(" | ") {
             Some((answer, record)) => (answer, Some(Words::new(record).only()?)),
@@ -114,8 +117,9 @@ impl<'a> Asked<'a> {
         };
         Ok(Asked {
             row,
+            values,
             call,
-            answer: Answer::read(Words::new(answer), row.2)?,
+            answer: Answer::read(Words::new(answer), values)?,
             record,
         })
     }
