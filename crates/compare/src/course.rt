@@ -93,24 +93,20 @@ impl Course {
         if !self.may_stand(&line) {
             return Err(Fault::NotUnderstood);
         }
-        match line {
-            Line::Comment | Line::Case => {}
-            _ => self.first = first_number(text).unwrap_or(self.first),
+        if !matches!(line, Line::Now(_)) {
+            self.compare()?;
+        }
+        if !matches!(line, Line::Comment | Line::Case) {
+            self.first = first_number(text).unwrap_or(self.first);
         }
         match line {
-            Line::Now(part) => {
-                self.lists.expect(&part);
-                return Ok(None);
-            }
-            _ => self.compare()?,
-        }
-        match line {
+            Line::Comment => {}
             Line::Case => self.begin(text)?,
             Line::Lent(lengths) => self.lists.lend(&lengths)?,
             Line::Record(record) => self.record = record,
             Line::Put(part) => self.lists.put(&part),
+            Line::Now(part) => self.lists.expect(&part),
             Line::Call(asked) => return Ok(Some(asked)),
-            _ => {}
         }
         Ok(None)
     }
@@ -171,7 +167,11 @@ impl Course {
             } else {
                 Some(record)
             };
-            return Err(Fault::Answered(came, asked.values, changed));
+            return Err(Fault::Answered {
+                came,
+                values: asked.values,
+                record: changed,
+            });
         }
         self.record = record;
         self.is_pending = true;
@@ -194,7 +194,11 @@ impl Course {
                 self.page.show_call(out)?;
                 writeln!(out, "{difference}")
             }
-            Fault::Answered(came, values, record) => {
+            Fault::Answered {
+                came,
+                values,
+                record,
+            } => {
                 self.page.show_call(out)?;
                 show_answer(out, came, *values, record)
             }

@@ -11,7 +11,11 @@ pub enum Fault {
     /// The call above has left a list otherwise.
     Left(Difference),
     /// The call answers otherwise: with so many values, and with a record where it changes.
-    Answered(Answer, usize, Option<Record>),
+    Answered {
+        came: Answer,
+        values: usize,
+        record: Option<Record>,
+    },
     OutOfMemory,
 }
 
