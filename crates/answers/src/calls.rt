@@ -1,28 +1,28 @@
 // Makes a call.
-use super::lent::LentRecord;
 use super::seen::Seen;
 use super::{lent, seen};
 use clvm_allocator::{c_concat, c_creates, c_load, c_node, c_reads, c_restores, c_save, c_state};
 use compare::lists::Lists;
+use rules::Allocator;
 use script::call::{Call, Plain, Transparent};
 use script::kind::{OfAmount, OfNode, OfRecord};
 use script::line::Answer;
 use std::alloc::{AllocError, Global};
 
 /// A checkpoint's numbers: a refused call leaves the noughts that were there.
-fn checkpoint(a: &LentRecord) -> Answer {
+fn checkpoint(a: &Allocator) -> Answer {
     let mut k = lent::plain(&[0; 6]);
     let r = c_state::clvm_checkpoint_of(a, &mut k);
     seen::answer(r.code, r.node, lent::plain_of(&k))
 }
 
-fn transparent_checkpoint(a: &LentRecord) -> Answer {
+fn transparent_checkpoint(a: &Allocator) -> Answer {
     let mut k = lent::transparent(&[0; 3]);
     let r = c_state::clvm_transparent_checkpoint(a, &mut k);
     seen::answer(r.code, r.node, lent::transparent_of(&k))
 }
 
-fn atom(a: &LentRecord, lists: &Lists, n: u32, length: usize) -> Answer {
+fn atom(a: &Allocator, lists: &Lists, n: u32, length: usize) -> Answer {
     let mut scratch = [170; 8];
     let length = length.min(8);
     let bytes = lists.bytes.part();
@@ -32,42 +32,42 @@ fn atom(a: &LentRecord, lists: &Lists, n: u32, length: usize) -> Answer {
     seen::part(part, &scratch[..length])
 }
 
-fn atom_eq(a: &LentRecord, lists: &Lists, left: u32, right: u32) -> Answer {
+fn atom_eq(a: &Allocator, lists: &Lists, left: u32, right: u32) -> Answer {
     let bytes = lists.bytes.part();
     let starts = lists.starts.part();
     c_reads::clvm_atom_eq(a, bytes, starts, lists.ends.part(), left, right).seen()
 }
 
-fn small_number(a: &LentRecord, lists: &Lists, n: u32) -> Answer {
+fn small_number(a: &Allocator, lists: &Lists, n: u32) -> Answer {
     let bytes = lists.bytes.part();
     c_reads::clvm_small_number(a, bytes, lists.starts.part(), lists.ends.part(), n).seen()
 }
 
-fn node(a: &LentRecord, lists: &Lists, n: u32) -> Answer {
+fn node(a: &Allocator, lists: &Lists, n: u32) -> Answer {
     let starts = lists.starts.part();
     let ends = lists.ends.part();
     c_reads::clvm_node(a, starts, ends, lists.firsts.part(), lists.rests.part(), n).seen()
 }
 
-fn atom_len(a: &LentRecord, lists: &Lists, n: u32) -> Answer {
+fn atom_len(a: &Allocator, lists: &Lists, n: u32) -> Answer {
     c_reads::clvm_atom_len(a, lists.starts.part(), lists.ends.part(), n).seen()
 }
 
-fn sexp(a: &LentRecord, lists: &Lists, n: u32) -> Answer {
+fn sexp(a: &Allocator, lists: &Lists, n: u32) -> Answer {
     c_reads::clvm_sexp(a, lists.firsts.part(), lists.rests.part(), n).seen()
 }
 
-fn next(a: &LentRecord, lists: &Lists, n: u32) -> Answer {
+fn next(a: &Allocator, lists: &Lists, n: u32) -> Answer {
     c_reads::clvm_next(a, lists.firsts.part(), lists.rests.part(), n).seen()
 }
 
-fn status(a: &LentRecord, lists: &Lists, used: &Transparent, n: u32) -> Answer {
+fn status(a: &Allocator, lists: &Lists, used: &Transparent, n: u32) -> Answer {
     let k = lent::transparent(used);
     let starts = lists.starts.part();
     c_reads::clvm_checkpoint_node_status(a, starts, lists.ends.part(), &k, n).seen()
 }
 
-fn well_formed(a: &LentRecord, lists: &Lists) -> Answer {
+fn well_formed(a: &Allocator, lists: &Lists) -> Answer {
     let bytes = lists.bytes.part();
     let starts = lists.starts.part();
     let ends = lists.ends.part();
@@ -76,7 +76,7 @@ fn well_formed(a: &LentRecord, lists: &Lists) -> Answer {
     seen::plain(u64::from(yes))
 }
 
-fn save(a: &LentRecord, lists: &mut Lists, n: u32) -> Answer {
+fn save(a: &Allocator, lists: &mut Lists, n: u32) -> Answer {
     let bytes = lists.bytes.part();
     let starts = lists.starts.part();
     let ends = lists.ends.part();
@@ -95,7 +95,7 @@ fn save(a: &LentRecord, lists: &mut Lists, n: u32) -> Answer {
     .seen()
 }
 
-fn restore(a: &mut LentRecord, lists: &Lists, k: &Plain) -> Answer {
+fn restore(a: &mut Allocator, lists: &Lists, k: &Plain) -> Answer {
     let k = lent::plain(k);
     let starts = lists.starts.part();
     let ends = lists.ends.part();
@@ -103,7 +103,7 @@ fn restore(a: &mut LentRecord, lists: &Lists, k: &Plain) -> Answer {
     c_restores::clvm_restore_checkpoint(a, starts, ends, firsts, lists.rests.part(), &k).seen()
 }
 
-fn restore_transparent(a: &mut LentRecord, lists: &Lists, k: &Transparent) -> Answer {
+fn restore_transparent(a: &mut Allocator, lists: &Lists, k: &Transparent) -> Answer {
     let k = lent::transparent(k);
     let starts = lists.starts.part();
     let ends = lists.ends.part();
@@ -112,7 +112,7 @@ fn restore_transparent(a: &mut LentRecord, lists: &Lists, k: &Transparent) -> An
     c_restores::clvm_restore_transparent_checkpoint(a, starts, ends, firsts, rests, &k).seen()
 }
 
-fn maybe_restore(a: &mut LentRecord, lists: &mut Lists, k: &Transparent, n: u32) -> Answer {
+fn maybe_restore(a: &mut Allocator, lists: &mut Lists, k: &Transparent, n: u32) -> Answer {
     let k = lent::transparent(k);
     let bytes = lists.bytes.part_mut();
     let starts = lists.starts.part_mut();
@@ -122,13 +122,13 @@ fn maybe_restore(a: &mut LentRecord, lists: &mut Lists, k: &Transparent, n: u32)
     c_restores::clvm_maybe_restore_with_node(a, bytes, starts, ends, firsts, rests, &k, n).seen()
 }
 
-fn new_pair(a: &mut LentRecord, lists: &mut Lists, first: u32, rest: u32) -> Answer {
+fn new_pair(a: &mut Allocator, lists: &mut Lists, first: u32, rest: u32) -> Answer {
     let firsts = lists.firsts.part_mut();
     c_creates::clvm_new_pair(a, firsts, lists.rests.part_mut(), first, rest).seen()
 }
 
 /// The file is lent up to a length.
-fn load(a: &mut LentRecord, lists: &mut Lists, length: usize) -> Answer {
+fn load(a: &mut Allocator, lists: &mut Lists, length: usize) -> Answer {
     let bytes = lists.bytes.part_mut();
     let starts = lists.starts.part_mut();
     let ends = lists.ends.part_mut();
@@ -139,37 +139,37 @@ fn load(a: &mut LentRecord, lists: &mut Lists, length: usize) -> Answer {
     c_load::clvm_load(a, bytes, starts, ends, firsts, rests, &file[..length]).seen()
 }
 
-fn new_atom(a: &mut LentRecord, lists: &mut Lists, v: &[u8]) -> Answer {
+fn new_atom(a: &mut Allocator, lists: &mut Lists, v: &[u8]) -> Answer {
     let bytes = lists.bytes.part_mut();
     let starts = lists.starts.part_mut();
     c_creates::clvm_new_atom(a, bytes, starts, lists.ends.part_mut(), v).seen()
 }
 
-fn new_u64(a: &mut LentRecord, lists: &mut Lists, x: u64) -> Answer {
+fn new_u64(a: &mut Allocator, lists: &mut Lists, x: u64) -> Answer {
     let bytes = lists.bytes.part_mut();
     let starts = lists.starts.part_mut();
     c_creates::clvm_new_u64(a, bytes, starts, lists.ends.part_mut(), x).seen()
 }
 
-fn new_i64(a: &mut LentRecord, lists: &mut Lists, x: i64) -> Answer {
+fn new_i64(a: &mut Allocator, lists: &mut Lists, x: i64) -> Answer {
     let bytes = lists.bytes.part_mut();
     let starts = lists.starts.part_mut();
     c_creates::clvm_new_i64(a, bytes, starts, lists.ends.part_mut(), x).seen()
 }
 
-fn new_substr(a: &mut LentRecord, lists: &mut Lists, n: u32, start: u32, end: u32) -> Answer {
+fn new_substr(a: &mut Allocator, lists: &mut Lists, n: u32, start: u32, end: u32) -> Answer {
     let bytes = lists.bytes.part_mut();
     let starts = lists.starts.part_mut();
     c_creates::clvm_new_substr(a, bytes, starts, lists.ends.part_mut(), n, start, end).seen()
 }
 
-fn new_concat(a: &mut LentRecord, lists: &mut Lists, size: usize, nodes: &[u32]) -> Answer {
+fn new_concat(a: &mut Allocator, lists: &mut Lists, size: usize, nodes: &[u32]) -> Answer {
     let bytes = lists.bytes.part_mut();
     let starts = lists.starts.part_mut();
     c_concat::clvm_new_concat(a, bytes, starts, lists.ends.part_mut(), size, nodes).seen()
 }
 
-fn of_node(which: &OfNode, n: u32, a: &mut LentRecord, lists: &mut Lists) -> Answer {
+fn of_node(which: &OfNode, n: u32, a: &mut Allocator, lists: &mut Lists) -> Answer {
     match which {
         OfNode::ObjectType => c_node::clvm_object_type(n).seen(),
         OfNode::Index => c_node::clvm_index(n).seen(),
@@ -186,7 +186,7 @@ fn of_node(which: &OfNode, n: u32, a: &mut LentRecord, lists: &mut Lists) -> Ans
     }
 }
 
-fn of_record(which: &OfRecord, a: &LentRecord, lists: &Lists) -> Answer {
+fn of_record(which: &OfRecord, a: &Allocator, lists: &Lists) -> Answer {
     match which {
         OfRecord::AtomCount => c_state::clvm_atom_count(a).seen(),
         OfRecord::AllocatedAtomCount => c_state::clvm_allocated_atom_count(a).seen(),
@@ -200,7 +200,7 @@ fn of_record(which: &OfRecord, a: &LentRecord, lists: &Lists) -> Answer {
     }
 }
 
-fn of_amount(which: &OfAmount, amount: usize, a: &mut LentRecord) -> Answer {
+fn of_amount(which: &OfAmount, amount: usize, a: &mut Allocator) -> Answer {
     match which {
         OfAmount::NewLimited => c_state::clvm_new_limited(a, amount).seen(),
         OfAmount::AddGhostPair => c_creates::clvm_add_ghost_pair(a, amount).seen(),
@@ -213,7 +213,7 @@ fn of_amount(which: &OfAmount, amount: usize, a: &mut LentRecord) -> Answer {
 pub fn made(
     alloc: Global,
     call: &Call<'_>,
-    a: &mut LentRecord,
+    a: &mut Allocator,
     lists: &mut Lists,
 ) -> Result<Answer, AllocError> {
     Ok(match call {
