@@ -12,7 +12,7 @@ ghost use Rattle.rules.specs.Reads.{atom_len, small_number, node as node_rule, c
 ghost use Rattle.rules.specs.Paper.{said_in, said_by, option_paper, visitor_paper, sexp_paper, next_paper, status_paper};
 
 use rules::{
-    Allocator, Arg, Atom, AtomSlots, Code, Counts, NIL, NodeStatus, NodeVisitor, PairSlots,
+    Allocator, Arg, AtomSlots, Code, Counts, NIL, NodeStatus, NodeVisitor, PairSlots,
     Refusal, SExp, View, need,
 };
 use state::sound;
@@ -133,10 +133,7 @@ pub fn atom_len(a: &Allocator, atoms: AtomSlots, n: u32) -> Result<usize, Refusa
         Code::Unsound,
         NIL,
     )?;
-    match arg::atom_of(a, atoms, n)? {
-        Atom::Range(start, end) => Ok(end - start),
-        Atom::Value(v) => Ok(node::len_for_value(v)),
-    }
+    Ok(arg::length(arg::atom_of(a, atoms, n)?))
 }
 
 // The value of an atom whose bytes are those of a small one, whatever its kind.
