@@ -71,10 +71,7 @@ same-value v w h k =
     let q : v ≡ w = cc in
     eq-eqb v w q
 
--- bytes that fit are those of their value, and no others are those of a small value
-pub same-fits : (v w : ℕ) (l : List ℕ) → v < 67108864 → Octets l → fits l ≡ some w → same_bytes (small_bytes v) l ≡ eqb v w
-same-fits v w l h o e = rw (← (fits-bytes l w o e)) (same-value v w h (fits-value l w o e))
-
+-- bytes that do not fit are those of no small value
 pub same-unfit : (v : ℕ) (l : List ℕ) → v < 67108864 → fits l ≡ none → same_bytes (small_bytes v) l ≡ false
 same-unfit v l h e =
     decided (small_bytes v) l false (λ k. absurd (false≢true k)) λ k.
@@ -106,10 +103,6 @@ part_in a b t n scratch =
 
 pub part_says : (a : Allocator) (b : List ℕ) (t : AtomSlots) (n scratch : ℕ) (x : Atom) → atom a b t n scratch ≡ says x → PartIn (length b) scratch (says x)
 part_says a b t n scratch x h = subst (PartIn (length b) scratch) h (part_in a b t n scratch)
-
--- all four bytes of a scratch are written
-pub whole_scratch : (v : ℕ) (scratch : List ℕ) → length scratch ≡ 4 → be 4 v ++ drop 4 scratch ≡ be 4 v
-whole_scratch v scratch h = rw (drop_of_length-le scratch {i = 4} (omega arith), append-nil)
 
 -- filling the scratch leaves its length, so that the second call answers as the first
 pub fill_length : (a : Allocator) (b : List ℕ) (t : AtomSlots) (n : ℕ) (scratch : List ℕ) → length (scratch_after (atom a b t n (length scratch)) scratch) ≡ length scratch
