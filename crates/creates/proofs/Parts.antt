@@ -1,23 +1,12 @@
 -- The part of a small atom's bytes that the code takes. Assumes nothing.
-use Prim.Native.Nat.{ℕ, ◌+◌, ◌-◌, ◌≤◌, ◌<◌}
+use Prim.Native.Nat.{ℕ, ◌+◌, ◌-◌, ◌≤◌}
 use mathlib.Core.Path.{◌≡◌, sym, ap, ◌∙◌}
-use mathlib.Core.Bool.{◌&&◌}
 use mathlib.Core.List.{List, ◌++◌}
 use native.Mathlib.Omega.{arith}
 use lib.ListN.{length, take, drop, length-drop}
 use lib.Seq.{slice, drop-drop, take-append-le, drop-append-le}
-use borrow.Author.Tests.{leb-true, ltb-true}
-use Rattle.rules.specs.declared.Allocator.{Allocator}
-use Rattle.rules.specs.Node.{nil}
 use Rattle.rules.specs.Small.{be, len_for, small_bytes}
-use Rattle.rules.specs.Said.{Said, says, refuses, need}
-use Rattle.rules.specs.State.{AtomSlots, limits_sound, atoms_fit, bytes_fit}
-use Rattle.rules.specs.Reads.{Atom, atom_of, atom_length}
-use Rattle.rules.specs.Creates.{atoms_left, bounded}
-use Rattle.rules.proofs.Needs.{passed}
 use Rattle.rules.proofs.Lists.{part_slice}
-use Rattle.rules.proofs.Sound.{StoreLent, store-lent}
-use Rattle.rules.proofs.Args.{AtomIn, atom_in}
 use Rattle.rules.proofs.Smalls.{length-be, be-low}
 
 -- the last len_for v of the four bytes of v are its own, and a part of them is the part of the atom

@@ -2,14 +2,14 @@
 use Prim.Native.Nat.{ℕ, ◌<◌}
 use mathlib.Core.Path.{◌≡◌, refl, sym, ap, ap₂, subst, ◌∙◌}
 use mathlib.Core.Bool.{Bool, true, false, ◌&&◌, false≢true}
-use mathlib.Core.List.{List, [], ◌∷◌, ◌++◌, append-nil}
-use mathlib.Core.Option.{none, some}
+use mathlib.Core.List.{List, [], ◌∷◌}
+use mathlib.Core.Option.{none}
 use native.Mathlib.Omega.{arith}
 use lib.Dec.{eqb}
-use lib.ListN.{length, drop, drop_of_length-le}
+use lib.ListN.{length}
 use borrow.Author.Tests.{eq-eqb, eqb-true}
 use Rattle.rules.specs.declared.Allocator.{Allocator}
-use Rattle.rules.specs.Small.{fits, be, small_bytes, Octets}
+use Rattle.rules.specs.Small.{fits, small_bytes, Octets}
 use Rattle.rules.specs.Said.{Said, says, refuses}
 use Rattle.rules.specs.Node.{nil}
 use Rattle.rules.specs.State.{AtomSlots, bytes_sound}

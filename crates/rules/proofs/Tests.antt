@@ -1,11 +1,10 @@
 -- Laws that turn a test's fact into the value of the test, and back. Assumes nothing.
-use Prim.Native.Nat.{ℕ, suc, ◌+◌, min, ◌≤◌, ◌<◌}
+use Prim.Native.Nat.{ℕ, ◌≤◌}
 use mathlib.Core.Path.{◌≡◌, refl}
 use mathlib.Core.Bool.{Bool, true, false, cond, ◌&&◌, and-false, and-true, false≢true}
-use native.Mathlib.Numerals.{add-one}
 use native.Mathlib.Omega.{arith}
 use borrow.Author.Tests.{lt-ltb, le-ltb, le-leb, lt-leb, eq-eqb, ne_eqb, leb-true, leb-false}
-use lib.Dec.{leb, ltb}
+use lib.Dec.{leb}
 
 -- `search (tests, arith)` closes a return whose contract goes by such tests
 pub ruleset tests = (lt-ltb, le-ltb, le-leb, lt-leb, eq-eqb, ne_eqb, and-false, and-true)
