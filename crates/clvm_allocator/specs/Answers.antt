@@ -1,6 +1,6 @@
 -- What crosses to C: each answer of the rules as numbers. A refusal has its code and node, and no value; an accepted answer has code 0,
 -- and nil where it makes no node.
-use Rattle.std.specs.Prelude.{ℕ, ◌-◌, Bool, true, false, List}
+use Rattle.std.specs.Prelude.{ℕ, ◌-◌, Bool, true, false, List, Result, Ok, Err}
 use Rattle.std.proofs.Math.Option.{Option, none, some}
 use Rattle.rules.specs.Node.{nil}
 use Rattle.rules.specs.Small.{len_for}
@@ -11,6 +11,9 @@ use Rattle.rules.specs.Load.{Reading}
 use Rattle.rules.specs.Save.{Saving}
 use Rattle.rules.specs.Restores.{Restoring, no_replace, replace, aborted}
 use Rattle.rules.specs.declared.Allocator.{Allocator}
+use Rattle.rules.specs.declared.Loaded.{Loaded}
+use Rattle.rules.specs.declared.Fault.{Fault}
+use Rattle.rules.specs.Paper.{code_number}
 use Rattle.clvm_allocator.specs.declared.answers.CNumber.{CNumber}
 use Rattle.clvm_allocator.specs.declared.answers.COption.{COption}
 use Rattle.clvm_allocator.specs.declared.answers.CVisited.{CVisited}
@@ -77,6 +80,11 @@ answer_c (refuses code node) = record { code = code; node = node }
 -- a program file's root and the place where reading came to, or the place of the item at fault
 abbrev pub loaded_c : Said ℕ → ℕ → CLoaded
 loaded_c said at = record { code = (answer_c said).code; node = (answer_c said).node; at = at }
+
+-- the same of what a reading answers
+abbrev pub file_c : Result Loaded Fault → CLoaded
+file_c (Ok r) = loaded_c (says r.node) r.next
+file_c (Err e) = loaded_c (refuses (code_number e.refusal.code) e.refusal.node) e.at
 
 -- a call that makes no node
 abbrev pub done_c : Said Done → CAnswer

@@ -384,3 +384,25 @@ pub struct CLoaded {
     pub node: u32,
     pub at: usize,
 }
+
+impl From<Result<Loaded, Fault>> for CLoaded {
+    ghost use Rattle.std.specs.Prelude.{◌≡◌};
+    ghost use Rattle.clvm_allocator.specs.Answers.{file_c};
+
+    ghost from_gives = { λ r c. c ≡ file_c r };
+
+    fn from(found: Result<Loaded, Fault>) -> CLoaded {
+        match found {
+            Ok(Loaded { node, next }) => CLoaded {
+                code: 0,
+                node,
+                at: next,
+            },
+            Err(Fault { refusal, at }) => CLoaded {
+                code: refusal.code.into(),
+                node: refusal.node,
+                at,
+            },
+        }
+    }
+}

@@ -5,7 +5,11 @@
 #![tactic(auto)]
 
 pub mod answers;
+pub mod c_concat;
 pub mod c_creates;
+pub mod c_load;
 pub mod c_node;
 pub mod c_reads;
+pub mod c_restores;
+pub mod c_save;
 pub mod c_state;

@@ -1,14 +1,8 @@
--- What the reader's answer for an item is in the definition, and promises made whatever a function is not lent.
+-- Promises made whatever a function is not lent.
 use Rattle.std.specs.Prelude.{◌≡◌}
 use Rattle.rules.specs.declared.Allocator.{Allocator}
 use Rattle.rules.specs.State.{Lists}
-use Rattle.rules.specs.Load.{Reading, reading}
-use Rattle.rules.specs.Paper.{answer_paper}
-use Rattle.load.specs.declared.Found.{Found}
-
--- the item's answer and place, beside a record and the lists
-abbrev pub read_item : Found → Allocator → Lists → Reading
-read_item r a l = reading (answer_paper r.answer) r.at a l
+use Rattle.rules.specs.Load.{Reading}
 
 -- the same reading with any lists in the place of those that are not lent
 abbrev pub Same : {L : Type 0} → (L → Reading) → (L → Reading) → Type 0

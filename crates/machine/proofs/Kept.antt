@@ -4,6 +4,7 @@ use mathlib.Core.Path.{◌≡◌, refl}
 use native.Mathlib.Omega.{arith}
 use lib.Dec.{ltb}
 use borrow.Author.Tests.{ltb-true}
+use Rattle.std.specs.Prelude.{None}
 use Rattle.rules.specs.declared.Counts.{Counts}
 use Rattle.rules.specs.declared.Allocator.{Allocator}
 use Rattle.rules.specs.declared.Checkpoint.{Checkpoint}
@@ -20,10 +21,8 @@ use Rattle.runs.proofs.Restoring.{transparent_keeps, plain-forms, maybe_keeps}
 use Rattle.request.specs.Request.{Request, making, taking, restoring, bad}
 use Rattle.request.proofs.Fine.{Fine}
 use Rattle.machine.specs.declared.Machine.{Machine}
-use Rattle.machine.specs.declared.Named.TheVariants.{Nothing}
 use Rattle.machine.specs.declared.Told.{Told}
-use Rattle.machine.specs.declared.Did.{Did}
-use Rattle.machine.specs.Machine.{with_state, with_checkpoint, with_restored, checkpoint_at, state_in, state_of, told_of, did_of, did_take, did_restore, Acted, acted, went_back, act_of}
+use Rattle.machine.specs.Machine.{Did, with_state, with_checkpoint, with_restored, checkpoint_at, state_in, state_of, told_of, did_of, did_take, did_restore, Acted, acted, went_back, act_of}
 use Rattle.machine.specs.Sane.{Sane, Ready}
 
 pub record Kept (m : Machine) (x : Acted) : Type 0 where
@@ -60,7 +59,7 @@ module _ (m : Machine) (h : Sane m) where
       choice (λ (d : Did). Kept m (acted d l)) (ltb m.taken 32) _ _
       (λ t. more (ltb-true _ _ t)) (λ t. still m.state l w _)
     where
-      more : m.taken < 32 → Kept m (acted (did_of (with_checkpoint m k) (told_of 0 Nothing)) l)
+      more : m.taken < 32 → Kept m (acted (did_of (with_checkpoint m k) (told_of 0 None)) l)
       more t = record { formed = w; checkpoints_taken = omega arith; rows-shown = refl; released_most = omega (arith, h.released_most) }
   taken_kept l w (refuses code n) = still m.state l w _
 

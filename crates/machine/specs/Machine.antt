@@ -1,6 +1,6 @@
 -- What each request does: the machine after it, the code and the node that it is told, and the lent lists.
-use Rattle.std.specs.Prelude.{ℕ, ◌+◌, cond, ltb, get_or, set, replicate}
-use Rattle.std.proofs.Math.Option.{Option, none, some}
+use Rattle.std.specs.Prelude.{ℕ, ◌+◌, cond, ltb, get_or, set, replicate, Option, None, Some}
+use Rattle.std.proofs.Math.Option as math
 use Rattle.rules.specs.declared.Counts.{Counts}
 use Rattle.rules.specs.declared.Allocator.{Allocator}
 use Rattle.rules.specs.declared.Checkpoint.{Checkpoint}
@@ -12,10 +12,7 @@ use Rattle.rules.specs.Restores.{Restoring, no_replace, replace, aborted, saving
 use Rattle.rules.specs.Whole.{St, Whole, call, Way, plainly, transparently, with_node, restore_to}
 use Rattle.request.specs.Request.{Request, making, taking, restoring, bad}
 use Rattle.machine.specs.declared.Machine.{Machine}
-use Rattle.machine.specs.declared.Named.{Named}
-use Rattle.machine.specs.declared.Named.TheVariants.{Node, Nothing}
 use Rattle.machine.specs.declared.Told.{Told}
-use Rattle.machine.specs.declared.Did.{Did}
 use Rattle.machine.specs.declared.calls.Called.{Called}
 
 -- ---- the machine
@@ -64,54 +61,59 @@ state_of m l = state_in m.state l
 
 -- ---- the row's code and node
 
-abbrev pub told_of : ℕ → Named → Told
+abbrev pub told_of : ℕ → Option ℕ → Told
 told_of code node = record { code = code; node = node }
 
 -- a creating call names its node, and a ghost call none; a refusal the node of document 01's table
-abbrev pub tells : Said (Option ℕ) → Told
-tells (says (some n)) = told_of 0 (Node n)
-tells (says none) = told_of 0 Nothing
-tells (refuses code node) = told_of code (Node node)
+abbrev pub tells : Said (math.Option ℕ) → Told
+tells (says (math.some n)) = told_of 0 (Some n)
+tells (says math.none) = told_of 0 None
+tells (refuses code node) = told_of code (Some node)
 
 -- a call as it is told, beside the state that it leaves
 pub record Came : Type 0 where
   pub told : Told
   pub next : St
 
-abbrev pub came_of : Whole (Option ℕ) → Came
+abbrev pub came_of : Whole (math.Option ℕ) → Came
 came_of o = record { told = tells o.said; next = o.next }
 
 -- the same of the code's answer
-abbrev pub called_of : Said (Option ℕ) → Allocator → Called
+abbrev pub called_of : Said (math.Option ℕ) → Allocator → Called
 called_of said a = record { told = tells said; state = a }
 
 abbrev pub came : Called → Lists → Came
 came r l = record { told = r.told; next = state_in r.state l }
+
+-- a request did something: the machine after it, and what it is told
+pub record Did : Type 0 where
+  pub machine : Machine
+  pub told : Told
 
 abbrev pub did_of : Machine → Told → Did
 did_of m told = record { machine = m; told = told }
 
 -- a bad record: 16, and `-`
 abbrev pub did_bad : Machine → Did
-did_bad m = did_of m (told_of 16 Nothing)
+did_bad m = did_of m (told_of 16 None)
 
 -- a checkpoint taken shows `-`; the 33rd is refused with 15
 abbrev pub did_take : Machine → Said Checkpoint → Did
-did_take m (says k) = cond (ltb m.taken 32) (did_of (with_checkpoint m k) (told_of 0 Nothing)) (did_of m (told_of 15 (Node nil)))
-did_take m (refuses code node) = did_of m (told_of code (Node node))
+did_take m (says k) = cond (ltb m.taken 32) (did_of (with_checkpoint m k) (told_of 0 None)) (did_of m (told_of 15 (Some nil)))
+did_take m (refuses code node) = did_of m (told_of code (Some node))
 
 -- NoReplace shows the node given; a plain or transparent restore is given none, and shows `-`
-abbrev pub shown_by : Way → Named
-shown_by plainly = Nothing
-shown_by transparently = Nothing
-shown_by (with_node n) = Node n
+abbrev pub shown_by : Way → Option ℕ
+shown_by plainly = None
+shown_by transparently = None
+shown_by (with_node n) = Some n
 
 -- a restore to k; Aborted shows `-` and releases nothing
 abbrev pub did_restore : Machine → Counts → Way → Said Restoring → Allocator → Did
 did_restore m k way (says no_replace) a = did_of (with_restored m k a) (told_of 0 (shown_by way))
-did_restore m k way (says (replace n)) a = did_of (with_restored m k a) (told_of 0 (Node n))
-did_restore m k way (says aborted) a = did_of (with_state m a) (told_of 0 Nothing)
-did_restore m k way (refuses code node) a = did_of (with_state m a) (told_of code (Node node))
+did_restore m k way (says (replace n)) a = did_of (with_restored m k a) (told_of 0 (Some n))
+did_restore m k way (says aborted) a = did_of (with_state m a) (told_of 0 None)
+did_restore m k way (refuses code node) a = did_of (with_state m a) (told_of code (Some node))
 
 -- ---- what a request did, with all five lists as it leaves them
 
@@ -135,5 +137,5 @@ act_of m l (making c) = called m (came_of (call c (state_of m l)))
 act_of m l taking = acted (did_take m (checkpoint m.state)) l
 act_of m l (restoring way i) =
     cond (ltb i m.taken) (went_back m (checkpoint_at m i).used way (restore_to way (checkpoint_at m i) (state_of m l)))
-    (acted (did_of m (told_of 11 (Node nil))) l)
+    (acted (did_of m (told_of 11 (Some nil))) l)
 act_of m l bad = acted (did_bad m) l

@@ -1,5 +1,5 @@
 // What a request calls: a creating call, a ghost call or a restore, on the record and the lists that it is lent.
-ghost use Rattle.std.specs.Prelude.{◌≡◌, ◌≤◌, length};
+ghost use Rattle.std.specs.Prelude.{◌≡◌, length};
 ghost use Rattle.std.proofs.Math.Option.{none, some};
 ghost use Rattle.rules.specs.Lent.{store_in, lists_in};
 ghost use Rattle.rules.specs.Said.{says_of};
@@ -8,10 +8,11 @@ ghost use Rattle.rules.specs.Creates.{new_concat};
 ghost use Rattle.rules.specs.Restores.{no_replace};
 ghost use Rattle.rules.specs.Whole.{whole, call, restore_to};
 ghost use Rattle.request.specs.Bytes.{u32s};
-ghost use Rattle.request.specs.Request.{making_in, way_of, MakingWithin};
+ghost use Rattle.request.specs.Request.{making_in, way_of};
 ghost use Rattle.machine.specs.Machine.{called_of, came, came_of, state_in};
 
-use crate::{Named, Told};
+use crate::Told;
+use request::nodes::Nodes;
 use request::{Making, Way, fields};
 use rules::{Allocator, Answer, Changed, Checkpoint, Made, MaybeRestore, Restored, Verdict};
 
@@ -29,7 +30,7 @@ fn of_made(m: Made) -> Called
     let state = m.state;
     match answer {
         Answer::Node(n) => Called {
-            told: super::accepted(Named::Node(n)),
+            told: super::accepted(Some(n)),
             state,
         },
         Answer::Refused(code, n) => Called {
@@ -47,7 +48,7 @@ fn of_changed(c: Changed) -> Called
     let state = c.state;
     match verdict {
         Verdict::Done => Called {
-            told: super::accepted(Named::Nothing),
+            told: super::accepted(None),
             state,
         },
         Verdict::Refused(code, n) => Called {
@@ -64,22 +65,21 @@ fn node_buffer() -> [u32; 16384]
     [0; 16384]
 }
 
-// The nodes of a concat stand in p, a u32 each.
+// The nodes of a concat, as numbers.
 fn new_concat(
     a: Allocator,
     bytes: &mut [u8],
     starts: &mut [u32],
     ends: &mut [u32],
     size: usize,
-    p: &[u8],
+    nodes: Nodes,
 ) -> Made
-    requires { length p.now ≤ 65536 }
     ensures { made result (store_in bytes.new starts.new ends.new)
-        ≡ new_concat a size (u32s p.now) (store_in bytes.old starts.old ends.old) }
+        ≡ new_concat a size (u32s nodes.entry.bytes.now) (store_in bytes.old starts.old ends.old) }
 {
-    let mut nodes = node_buffer();
-    let n = fields::put_u32s(&mut nodes, p);
-    concat::new_concat(a, bytes, starts, ends, size, &nodes[..n])
+    let mut numbers = node_buffer();
+    let n = fields::put_u32s(&mut numbers, nodes.bytes);
+    concat::new_concat(a, bytes, starts, ends, size, &numbers[..n])
 }
 
 pub fn make(
@@ -89,18 +89,14 @@ pub fn make(
     ends: &mut [u32],
     firsts: &mut [u32],
     rests: &mut [u32],
-    input: &[u8],
     making: Making,
 ) -> Called
-    requires { MakingWithin (length input.now) making }
     ensures { came result (lists_in bytes.new starts.new ends.new firsts.new rests.new)
-        ≡ came_of (call (making_in input.now making)
+        ≡ came_of (call (making_in making.entry)
         (state_in a (lists_in bytes.old starts.old ends.old firsts.old rests.old))) }
 {
     match making {
-        Making::Atom(from, to) => {
-            of_made(creates::atom::new_atom(a, bytes, starts, ends, &input[from..to]))
-        }
+        Making::Atom(atom) => of_made(creates::atom::new_atom(a, bytes, starts, ends, atom)),
         Making::SmallNumber(v) => of_made(creates::atom::new_small_number(a, v)),
         Making::Pair(first, rest) => {
             of_made(creates::pair::new_pair(a, firsts, rests, first, rest))
@@ -108,9 +104,7 @@ pub fn make(
         Making::Substr(n, start, end) => {
             of_made(creates::substr::new_substr(a, bytes, starts, ends, n, start, end))
         }
-        Making::Concat(size, from, to) => {
-            of_made(new_concat(a, bytes, starts, ends, size, &input[from..to]))
-        }
+        Making::Concat(size, nodes) => of_made(new_concat(a, bytes, starts, ends, size, nodes)),
         Making::AddGhostPair(n) => of_changed(creates::ghosts::add_ghost_pair(a, n)),
         Making::RemoveGhostPair(n) => of_changed(creates::ghosts::remove_ghost_pair(a, n)),
         Making::AddGhostAtom(n) => of_changed(creates::ghosts::add_ghost_atom(a, n)),

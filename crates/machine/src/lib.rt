@@ -9,7 +9,7 @@ ghost use Rattle.rules.specs.Said as Said;
 ghost use Rattle.rules.specs.Record.{checkpoint};
 ghost use Rattle.rules.specs.Lent.{lists_in};
 ghost use Rattle.rules.specs.Paper.{code_number, maybe_paper};
-ghost use Rattle.request.specs.Request.{meant, way_of, Within};
+ghost use Rattle.request.specs.Request.{request_is, way_of};
 ghost use Rattle.machine.specs.Machine.{told_of, fresh_machine, with_state, with_restored, did_of, did_bad, did_take, shown_by, did_restore, acted, act_of};
 ghost use Rattle.machine.specs.Sane.{Sane};
 
@@ -31,233 +31,163 @@ pub struct Machine {
     pub checkpoints: [Checkpoint; 32],
 }
 
-// The node that an answer names, if it does.
-#[derive(Clone, Copy)]
-pub enum Named {
-    Node(u32),
-    Nothing,
-}
-
-// What a request is told: the code, 0 where it was accepted, and the node.
+// What a request is told: the code, 0 where it was accepted, and the node that the answer names, if it does.
 #[derive(Clone, Copy)]
 pub struct Told {
     pub code: usize,
-    pub node: Named,
-}
-
-// What a request did: the machine after it, and what it is told.
-#[derive(Clone, Copy)]
-pub struct Did {
-    pub machine: Machine,
-    pub told: Told,
+    pub node: Option<u32>,
 }
 
 // A refusal names the node of document 01's table.
 fn refused(code: Code, n: u32) -> Told
-    ensures { result ≡ told_of (code_number code) (Named.Node n) }
+    ensures { result ≡ told_of (code_number code) (Some n) }
 {
     Told {
         code: node::code::number_of(code) as usize,
-        node: Named::Node(n),
+        node: Some(n),
     }
 }
 
 // What was accepted.
-fn accepted(node: Named) -> Told
+fn accepted(node: Option<u32>) -> Told
     ensures { result ≡ told_of 0 node }
 {
     Told { code: 0, node }
 }
 
-// Before the first record.
-pub fn fresh() -> Machine
-    ensures { result ≡ fresh_machine }
-{
-    let none = Counts {
-        atoms: 0,
-        pairs: 0,
-        bytes: 0,
-    };
-    let checkpoint = Checkpoint {
-        used: none,
-        ghosts: none,
-    };
-    let checkpoints = [checkpoint; 32];
-    Machine {
-        state: state::record::fresh(state::record::TOP),
-        shown: 0,
-        released: 0,
-        taken: 0,
-        checkpoints,
+impl Machine {
+    // Before the first record.
+    pub fn new() -> Machine
+        ensures { result ≡ fresh_machine }
+    {
+        let none = Counts {
+            atoms: 0,
+            pairs: 0,
+            bytes: 0,
+        };
+        let checkpoint = Checkpoint {
+            used: none,
+            ghosts: none,
+        };
+        Machine {
+            state: state::record::fresh(state::record::TOP),
+            shown: 0,
+            released: 0,
+            taken: 0,
+            checkpoints: [checkpoint; 32],
+        }
     }
-}
 
-fn with_state(m: Machine, state: Allocator) -> Machine
-    ensures { result ≡ with_state m state }
-{
-    let checkpoints = m.checkpoints;
-    Machine {
-        state,
-        shown: m.shown,
-        released: m.released,
-        taken: m.taken,
-        checkpoints,
+    // A checkpoint goes into the next free place; numbers are never freed, and the 33rd takes none.
+    fn keep(&mut self, k: Checkpoint) -> Told
+        requires { Sane self.old }
+        ensures { did_of self.new result ≡ did_take self.old (Said.says k) }
+    {
+        let i = self.taken;
+        if CHECKPOINTS <= i {
+            return refused(Code::Full, node::NIL);
+        }
+        self.checkpoints[i] = k;
+        self.taken = i + 1;
+        accepted(None)
     }
-}
 
-// After an accepted restore to k that left the record a: what it released is counted.
-fn with_restored(m: Machine, k: Counts, a: Allocator) -> Machine
-    requires { Sane m }
-    ensures { result ≡ with_restored m k a }
-{
-    let before = m.state;
-    let released = m.released + state::record::savings(k, before);
-    let checkpoints = m.checkpoints;
-    Machine {
-        state: a,
-        shown: m.shown,
-        released,
-        taken: m.taken,
-        checkpoints,
+    // Takes a plain checkpoint.
+    fn take(&mut self) -> Told
+        requires { Sane self.old }
+        ensures { did_of self.new result ≡ did_take self.old (checkpoint self.old.state) }
+    {
+        match state::checkpoint(self.state) {
+            Taken::Plain(k) => self.keep(k),
+            Taken::Refused(code, n) => refused(code, n),
+        }
+    }
+
+    // After an accepted restore to k that left the record a: what it released is counted.
+    fn restored(&mut self, k: Counts, a: Allocator)
+        requires { Sane self.old }
+        ensures { self.new ≡ with_restored self.old k a }
+    {
+        self.released += state::record::savings(k, self.state);
+        self.state = a;
+    }
+
+    // A restore to k: Aborted restored nothing, so it releases nothing.
+    fn back(&mut self, k: Counts, way: Way, restored: Restored) -> Told
+        requires { Sane self.old }
+        ensures { did_of self.new result ≡ did_restore self.old k (way_of way) (maybe_paper restored.answer) restored.state }
+    {
+        let a = restored.state;
+        match restored.answer {
+            MaybeRestore::NoReplace => {
+                self.restored(k, a);
+                accepted(shown_by(way))
+            }
+            MaybeRestore::Replace(n) => {
+                self.restored(k, a);
+                accepted(Some(n))
+            }
+            MaybeRestore::Aborted => {
+                self.state = a;
+                accepted(None)
+            }
+            MaybeRestore::Refused(code, n) => {
+                self.state = a;
+                refused(code, n)
+            }
+        }
+    }
+
+    // What a request does. A restore to a number that was not taken gives 11, before anything else.
+    pub fn act(
+        &mut self,
+        bytes: &mut [u8],
+        starts: &mut [u32],
+        ends: &mut [u32],
+        firsts: &mut [u32],
+        rests: &mut [u32],
+        request: Request,
+    ) -> Told
+        requires { Sane self.old }
+        ensures { acted (did_of self.new result) (lists_in bytes.new starts.new ends.new firsts.new rests.new)
+            ≡ act_of self.old (lists_in bytes.old starts.old ends.old firsts.old rests.old) (request_is request.entry) }
+    {
+        let a = self.state;
+        match request {
+            Request::Make(making) => {
+                let called = calls::make(a, bytes, starts, ends, firsts, rests, making);
+                self.state = called.state;
+                called.told
+            }
+            Request::TakeCheckpoint => self.take(),
+            Request::Restore(way, i) => {
+                if self.taken <= i {
+                    return refused(Code::NotUsable, node::NIL);
+                }
+                let k = self.checkpoints[i];
+                let restored = calls::go_back(a, bytes, starts, ends, firsts, rests, way, k);
+                self.back(k.used, way, restored)
+            }
+        }
     }
 }
 
 // A bad record: 16, and no node.
-fn bad(m: Machine) -> Did
-    ensures { result ≡ did_bad m }
+pub fn bad() -> Told
+    ensures { result ≡ told_of 16 None }
 {
-    Did {
-        machine: m,
-        told: Told {
-            code: BAD_RECORD,
-            node: Named::Nothing,
-        },
-    }
-}
-
-// A refusal of the program itself: it names nil.
-fn refuse(m: Machine, code: Code) -> Did
-    ensures { result ≡ did_of m (told_of (code_number code) (Named.Node nil)) }
-{
-    Did {
-        machine: m,
-        told: refused(code, node::NIL),
-    }
-}
-
-// A checkpoint goes into the next free place; numbers are never freed, and the 33rd takes none.
-fn keep(m: Machine, k: Checkpoint) -> Did
-    requires { Sane m }
-    ensures { result ≡ did_take m (Said.says k) }
-{
-    let i = m.taken;
-    if CHECKPOINTS <= i {
-        return refuse(m, Code::Full);
-    }
-    let state = m.state;
-    let mut checkpoints = m.checkpoints;
-    checkpoints[i] = k;
-    Did {
-        machine: Machine {
-            state,
-            shown: m.shown,
-            released: m.released,
-            taken: i + 1,
-            checkpoints,
-        },
-        told: accepted(Named::Nothing),
-    }
-}
-
-// Takes a plain checkpoint.
-fn take(m: Machine) -> Did
-    requires { Sane m }
-    ensures { result ≡ did_take m (checkpoint m.state) }
-{
-    let a = m.state;
-    let taken = state::checkpoint(a);
-    match taken {
-        Taken::Plain(k) => keep(m, k),
-        Taken::Refused(code, n) => Did {
-            machine: m,
-            told: refused(code, n),
-        },
+    Told {
+        code: BAD_RECORD,
+        node: None,
     }
 }
 
 // A restore that replaced no node names the one that it was given, if it was given one.
-fn shown_by(way: Way) -> Named
+fn shown_by(way: Way) -> Option<u32>
     ensures { result ≡ shown_by (way_of way) }
 {
     match way {
-        Way::Plainly => Named::Nothing,
-        Way::Transparently => Named::Nothing,
-        Way::WithNode(n) => Named::Node(n),
-    }
-}
-
-// A restore to k: Aborted restored nothing, so it releases nothing.
-fn back(m: Machine, k: Counts, way: Way, restored: Restored) -> Did
-    requires { Sane m }
-    ensures { result ≡ did_restore m k (way_of way) (maybe_paper restored.answer) restored.state }
-{
-    let answer = restored.answer;
-    let a = restored.state;
-    match answer {
-        MaybeRestore::NoReplace => Did {
-            machine: with_restored(m, k, a),
-            told: accepted(shown_by(way)),
-        },
-        MaybeRestore::Replace(n) => Did {
-            machine: with_restored(m, k, a),
-            told: accepted(Named::Node(n)),
-        },
-        MaybeRestore::Aborted => Did {
-            machine: with_state(m, a),
-            told: accepted(Named::Nothing),
-        },
-        MaybeRestore::Refused(code, n) => Did {
-            machine: with_state(m, a),
-            told: refused(code, n),
-        },
-    }
-}
-
-// What a request does. Its ranges are those of the input. A restore to a number that was not taken gives 11, before anything else.
-pub fn act(
-    m: Machine,
-    bytes: &mut [u8],
-    starts: &mut [u32],
-    ends: &mut [u32],
-    firsts: &mut [u32],
-    rests: &mut [u32],
-    input: &[u8],
-    request: Request,
-) -> Did
-    requires sane { Sane m }
-    requires within { Within (length input.now) request }
-    ensures { acted result (lists_in bytes.new starts.new ends.new firsts.new rests.new)
-        ≡ act_of m (lists_in bytes.old starts.old ends.old firsts.old rests.old) (meant input.now request) }
-{
-    let a = m.state;
-    match request {
-        Request::Make(making) => {
-            let called = calls::make(a, bytes, starts, ends, firsts, rests, input, making);
-            let told = called.told;
-            Did {
-                machine: with_state(m, called.state),
-                told,
-            }
-        }
-        Request::TakeCheckpoint => take(m),
-        Request::Restore(way, i) => {
-            if m.taken <= i {
-                return refuse(m, Code::NotUsable);
-            }
-            let k = m.checkpoints[i];
-            let restored = calls::go_back(a, bytes, starts, ends, firsts, rests, way, k);
-            back(m, k.used, way, restored)
-        }
-        Request::Bad => bad(m),
+        Way::Plainly | Way::Transparently => None,
+        Way::WithNode(n) => Some(n),
     }
 }

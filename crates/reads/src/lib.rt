@@ -5,7 +5,8 @@ pub mod arg;
 pub mod eq;
 pub mod part;
 
-ghost use Rattle.std.specs.Prelude.{◌≡◌, ◌<◌, length};
+ghost use Rattle.std.specs.Prelude.{◌≡◌, ◌<◌, IfOk, length};
+ghost use Rattle.rules.proofs.Args.{VisitedIn};
 ghost use Rattle.rules.specs.Node.{view, bytes_at};
 ghost use Rattle.rules.specs.Lent.{atoms_of, pairs_of, AtomsWithin, PairsWithin};
 ghost use Rattle.rules.specs.Reads.{atom_len, small_number, node as node_rule, children_of, branch, sexp_of, sexp as sexp_rule, node_status, node_status_of};
@@ -41,7 +42,8 @@ pub fn node(
     pairs: PairSlots,
     n: u32,
 ) -> Result<NodeVisitor, Refusal>
-    ensures { said_by visitor_paper result ≡ node_rule a.now (atoms_of atoms.entry) (pairs_of pairs.entry) n }
+    ensures value { said_by visitor_paper result ≡ node_rule a.now (atoms_of atoms.entry) (pairs_of pairs.entry) n }
+    ensures facts { IfOk result (λ x. VisitedIn a.now (visitor_paper x)) }
 {
     need(
         sound::slots_sound(

@@ -1,17 +1,15 @@
 -- The arguments of a request that was read from bytes are as their types in the code have them. Assumes nothing.
-use Prim.Native.Nat.{ℕ, ◌+◌, ◌-◌, ◌%◌}
-use mathlib.Core.Bool.{◌&&◌}
-use mathlib.Core.List.{List}
-use lib.Dec.{leb, eqb}
-use lib.ListN.{length}
-use lib.Seq.{slice}
+use Rattle.std.proofs.Common.{ℕ, List, length, drop}
+use Rattle.std.specs.Prelude.{Option, None, Some, ◌+◌, ◌-◌, ◌%◌, ◌&&◌, ◌==◌, ltb, leb}
 use Rattle.rules.specs.Small.{Octets}
 use Rattle.rules.specs.Whole.{Typed}
 use Rattle.rules.proofs.Tests.{choice}
-use Rattle.rules.proofs.Bytes.{octets-slice}
-use Rattle.request.specs.declared.Frame.{Frame}
-use Rattle.request.specs.declared.Frame.TheVariants.{Whole, Short}
-use Rattle.request.specs.Request.{Request, making, taking, restoring, bad, size_of, ghosts_of, back_of, numbers_of, concat_of, request_of, frame_of, request_in, request_at}
+use Rattle.rules.proofs.Bytes.{octets-take, octets-drop}
+use Rattle.request.specs.declared.kind.Kind.{Kind}
+use Rattle.request.specs.declared.kind.Kind.TheVariants.{Atom, Pair, Substr, Concat, SmallNumber, Checkpoint, Restore, RestoreTransparent, MaybeRestore, AddGhostPair, RemoveGhostPair, AddGhostAtom}
+use Rattle.request.specs.Bytes.{u16_at}
+use Rattle.request.specs.Kind.{kind_of}
+use Rattle.request.specs.Request.{Request, making, taking, restoring, bad, sized, payload_of, asked_of, Frame, request_in, request_at}
 
 abbrev pub Fine : Request → Type 0
 Fine (making c) = Typed c
@@ -19,36 +17,31 @@ Fine taking = Unit {0}
 Fine (restoring way number) = Unit {0}
 Fine bad = Unit {0}
 
-ghosts_fine : (kind : ℕ) (p : List ℕ) → Fine (ghosts_of kind p)
-unfolding ghosts_of
-ghosts_fine kind p =
-    choice Fine (eqb kind 10) _ _ (λ e. tt) λ e. choice Fine (eqb kind 11) _ _ (λ e. tt) λ e. choice Fine (eqb kind 12) _ _ (λ e. tt) λ e. tt
-
-back_fine : (kind : ℕ) (p : List ℕ) → Fine (back_of kind p)
-unfolding back_of
-back_fine kind p =
-    choice Fine (eqb kind 7) _ _ (λ e. tt) λ e. choice Fine (eqb kind 8) _ _ (λ e. tt) λ e. choice Fine (eqb kind 9) _ _ (λ e. tt) λ e.
-    ghosts_fine kind p
-
-numbers_fine : (kind : ℕ) (p : List ℕ) → Fine (numbers_of kind p)
-unfolding numbers_of
-numbers_fine kind p =
-    choice Fine (eqb kind 2) _ _ (λ e. tt) λ e. choice Fine (eqb kind 3) _ _ (λ e. tt) λ e. choice Fine (eqb kind 5) _ _ (λ e. tt) λ e.
-    choice Fine (eqb kind 6) _ _ (λ e. tt) λ e. back_fine kind p
-
-concat_fine : (p : List ℕ) → Fine (concat_of p)
-concat_fine p = choice Fine (leb 8 (length p) && eqb ((length p - 8) % 4) 0) _ _ (λ e. tt) (λ e. tt)
+sized_fine : (n : ℕ) (p : List ℕ) (r : Request) → Fine r → Fine (sized n p r)
+sized_fine n p r f = choice Fine (length p == n) r bad (λ e. f) (λ e. tt)
 
 -- the bytes of an atom are bytes
-kind_fine : (kind : ℕ) (p : List ℕ) → Octets p → Fine (request_of kind p)
-unfolding request_of
-kind_fine kind p o =
-    choice Fine (eqb kind 1) _ _ (λ e. o) λ e. choice Fine (eqb kind 4) _ _ (λ e. concat_fine p) λ e.
-    choice Fine (eqb (length p) (size_of kind)) _ _ (λ e. numbers_fine kind p) (λ e. tt)
+payload_fine : (k : Kind) (p : List ℕ) → Octets p → Fine (payload_of k p)
+payload_fine Atom p o = o
+payload_fine Pair p o = sized_fine 8 p _ tt
+payload_fine Substr p o = sized_fine 12 p _ tt
+payload_fine Concat p o = choice Fine (leb 8 (length p) && ((length p - 8) % 4 == 0)) _ _ (λ e. tt) (λ e. tt)
+payload_fine SmallNumber p o = sized_fine 4 p _ tt
+payload_fine Checkpoint p o = sized_fine 0 p _ tt
+payload_fine Restore p o = sized_fine 2 p _ tt
+payload_fine RestoreTransparent p o = sized_fine 2 p _ tt
+payload_fine MaybeRestore p o = sized_fine 6 p _ tt
+payload_fine AddGhostPair p o = sized_fine 8 p _ tt
+payload_fine RemoveGhostPair p o = sized_fine 8 p _ tt
+payload_fine AddGhostAtom p o = sized_fine 8 p _ tt
+
+asked_fine : (k : Option Kind) (p : List ℕ) → Octets p → Fine (asked_of k p)
+asked_fine None p o = tt
+asked_fine (Some k) p o = payload_fine k p o
 
 pub request_fine : (i : List ℕ) → Octets i → Fine (request_at i)
-request_fine i o = go (frame_of i)
-  where
-    go : (f : Frame) → Fine (request_in f i)
-    go Short = tt
-    go (Whole kind len) = kind_fine kind (slice 4 (4 + len) i) (octets-slice 4 (4 + len) i o)
+request_fine i o =
+    let whole = λ (f : Option Frame). Fine (request_in f) in
+    let payload = octets-take (u16_at i 0) (drop 4 i) (octets-drop 4 i o) in
+    choice whole (ltb (length i) 4) _ _ (λ e. tt) λ e. choice whole (ltb (length i) (4 + u16_at i 0)) _ _ (λ e. tt) λ e.
+    asked_fine (kind_of (u16_at i 2)) _ payload

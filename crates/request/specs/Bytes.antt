@@ -11,7 +11,7 @@ abbrev pub u64_at : List ℕ → ℕ → ℕ
 u64_at l i = u32_at l i + 4294967296 * u32_at l (i + 4)
 
 -- the first n u32 numbers of a list
-unfoldable pub u32s_to : ℕ → List ℕ → List ℕ
+abbrev pub u32s_to : ℕ → List ℕ → List ℕ
 u32s_to zero l = []
 u32s_to (suc n) l = u32s_to n l ++ (u32_at l (4 * n) ∷ [])
 

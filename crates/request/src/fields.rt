@@ -1,42 +1,27 @@
 // Little-endian numbers in a payload.
-ghost use Rattle.std.specs.Prelude.{◌≡◌, ◌+◌, ◌/◌, ◌≤◌, ◌<◌, length, take};
+ghost use Rattle.std.specs.Prelude.{◌≡◌, ◌+◌, ◌/◌, ◌≤◌, length, take};
 ghost use Rattle.io.specs.Counts.{IsPrefixLen};
 ghost use Rattle.request.specs.Bytes.{u16_at, u32_at, u64_at, u32s};
 
-fn wide(b: u8) -> usize
-    ensures { result ≡ b }
-{
-    b as usize
-}
-
-pub fn u16_at(s: &[u8], i: usize) -> usize
+pub fn u16_at(s: &[u8], i: usize) -> u16
     requires { i + 2 ≤ length s.now }
-    ensures value { result ≡ u16_at s.now i }
-    ensures bound { result < 65536 }
+    ensures { result ≡ u16_at s.now i }
 {
-    wide(s[i]) + 256 * wide(s[i + 1])
-}
-
-fn wide_u32_at(s: &[u8], i: usize) -> usize
-    requires { i + 4 ≤ length s.now }
-    ensures value { result ≡ u32_at s.now i }
-    ensures bound { result < 4294967296 }
-{
-    u16_at(s, i) + 65536 * u16_at(s, i + 2)
+    u16::from_le_bytes([s[i], s[i + 1]])
 }
 
 pub fn u32_at(s: &[u8], i: usize) -> u32
     requires { i + 4 ≤ length s.now }
     ensures { result ≡ u32_at s.now i }
 {
-    wide_u32_at(s, i) as u32
+    u32::from_le_bytes([s[i], s[i + 1], s[i + 2], s[i + 3]])
 }
 
-pub fn u64_at(s: &[u8], i: usize) -> usize
+pub fn u64_at(s: &[u8], i: usize) -> u64
     requires { i + 8 ≤ length s.now }
     ensures { result ≡ u64_at s.now i }
 {
-    wide_u32_at(s, i) + 4294967296 * wide_u32_at(s, i + 4)
+    u64::from(u32_at(s, i)) + (u64::from(u32_at(s, i + 4)) << 32)
 }
 
 // Puts the u32 numbers of s at the front of out, and answers how many there are.
@@ -46,10 +31,8 @@ pub fn put_u32s(out: &mut [u32], s: &[u8]) -> usize
     ensures prefix { IsPrefixLen result out.new }
 {
     let n = s.len() / 4;
-    let mut i = 0;
-    while i < n {
+    for i in 0..n {
         out[i] = u32_at(s, 4 * i);
-        i += 1;
     }
     n
 }

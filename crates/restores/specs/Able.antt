@@ -4,7 +4,8 @@ use Rattle.std.proofs.Math.Seq.{slice}
 use Rattle.rules.specs.declared.Counts.{Counts}
 use Rattle.rules.specs.declared.Allocator.{Allocator}
 use Rattle.rules.specs.Said.{says}
-use Rattle.rules.specs.State.{Store, cut, less_ghosts}
+use Rattle.rules.specs.State.{Store, store, Lists, cut, less_ghosts}
+use Rattle.rules.specs.Restores.{Course, abort, keep, share, copy}
 use Rattle.rules.specs.Creates.{new_atom}
 use Rattle.rules.proofs.Limits.{Limits}
 
@@ -35,3 +36,10 @@ pub record Copyable (k : Counts) (a : Allocator) (s : Store) (start end : ℕ) :
   pub short : end - start ≤ 48
   pub node : ℕ
   pub accepts : (new_atom (less_ghosts (end - start) (cut k a)) (slice start end s.bytes) s).said ≡ says node
+
+-- what is known of the numbers, by course
+abbrev pub Able : Counts → Allocator → Lists → Course → Type 0
+Able k a l abort = 0 ≤ 0
+Able k a l keep = Cuttable k a
+Able k a l (share start end) = Shareable k a (length l.atoms.starts) (length l.atoms.ends) start end
+Able k a l (copy start end) = Copyable k a (store l.bytes l.atoms) start end

@@ -1,14 +1,19 @@
 // What a restore with a node is to do, decided on numbers before any slot is touched.
-ghost use Rattle.std.specs.Prelude.{◌≡◌, ◌&&◌, true, leb};
-ghost use Rattle.rules.specs.State.{slots_sound};
-ghost use Rattle.rules.specs.Lent.{atom_slots_in, pair_slots_in, lists_in, AtomsWithin, PairsWithin};
-ghost use Rattle.rules.specs.Said.{says};
-ghost use Rattle.rules.specs.Reads.{Arg as ArgRule, arg as arg_rule};
-ghost use Rattle.rules.specs.Restores.{usable as usable_rule, new_course, node_course, course as course_rule};
-ghost use Rattle.restores.specs.Course.{course_paper};
+#![tactic(auto, unfolding(rules::specs::Said::need))]
+
+ghost use Rattle.std.specs.Prelude.{◌≡◌, ◌&&◌, true, leb, IfOk};
+ghost use Rattle.std.specs.Bool.{OnTrue};
+ghost use Rattle.rules.specs.State.{slots_sound, lists};
+ghost use Rattle.rules.specs.Lent.{atoms_of, pairs_of, AtomsWithin, PairsWithin};
+ghost use Rattle.rules.specs.Reads.{arg as arg_rule, node as node_rule};
+ghost use Rattle.rules.specs.Restores.{usable as usable_rule, node_course, course as course_rule};
+ghost use Rattle.rules.specs.Paper.{said_by};
+ghost use Rattle.rules.proofs.Limits.{Below};
+ghost use Rattle.restores.specs.Course.{course_paper, visited_course};
+ghost use Rattle.restores.specs.Able.{Able};
 
 use reads::arg;
-use rules::{Allocator, Arg, Code, Counts, NodeVisitor};
+use rules::{Allocator, Arg, AtomSlots, Code, Counts, NIL, NodeVisitor, PairSlots, Refusal, need};
 use state::{record, sound};
 
 // An atom of more bytes is not cloned.
@@ -16,10 +21,9 @@ const CLONE_ATOM_LIMIT: usize = 48;
 // A restore that frees less is not worth it.
 const MIN_SAVINGS: usize = 1024;
 
-// Refuse; leave all as it is; restore; restore and give a range a new slot; restore and make an atom of the bytes again.
+// Leave all as it is; restore; restore and give a range a new slot; restore and make an atom of the bytes again.
 #[derive(Clone, Copy)]
 pub enum Course {
-    Refuse(Code, u32),
     Abort,
     Keep,
     Share(usize, usize),
@@ -27,133 +31,97 @@ pub enum Course {
 }
 
 // Whether none of the checkpoint's counts is above the used one.
-fn within(k: Counts, used: Counts) -> bool
-    ensures { result ≡ (leb k.bytes used.bytes && leb k.atoms used.atoms && leb k.pairs used.pairs) }
+fn within(k: &Counts, used: &Counts) -> bool
+    ensures value { result ≡ (leb k.now.bytes used.now.bytes && leb k.now.atoms used.now.atoms && leb k.now.pairs used.now.pairs) }
+    ensures facts { OnTrue result (Below k.now used.now) }
 {
-    if used.bytes < k.bytes {
-        return false;
-    }
-    if used.atoms < k.atoms {
-        return false;
-    }
-    k.pairs <= used.pairs
+    k.bytes <= used.bytes && k.atoms <= used.atoms && k.pairs <= used.pairs
 }
 
 // Whether the state can be cut to k: by a scan of the slots that would be kept.
-pub fn usable(
-    k: Counts,
-    a: Allocator,
-    starts: &[u32],
-    ends: &[u32],
-    firsts: &[u32],
-    rests: &[u32],
-) -> bool
-    requires { AtomsWithin a starts.now ends.now × PairsWithin a firsts.now rests.now }
-    ensures { result
-        ≡ usable_rule k a (atom_slots_in starts.now ends.now) (pair_slots_in firsts.now rests.now) }
+#[tactic(auto, unfolding(rules::specs::Restores::usable))]
+pub fn usable(k: &Counts, a: &Allocator, atoms: AtomSlots, pairs: PairSlots) -> bool
+    requires { AtomsWithin a.now atoms.starts.now atoms.ends.now × PairsWithin a.now pairs.firsts.now pairs.rests.now }
+    ensures value { result ≡ usable_rule k.now a.now (atoms_of atoms.entry) (pairs_of pairs.entry) }
+    ensures facts { OnTrue result (Below k.now a.now.used) }
 {
-    let used = a.used;
-    if within(k, used) {
-        if sound::atom_slots_sound(k, starts, ends) {
-            return sound::pair_slots_sound(k, firsts, rests);
-        }
-    }
-    false
+    within(k, &a.used)
+        && sound::atom_slots_sound(k, atoms.starts, atoms.ends)
+        && sound::pair_slots_sound(k, pairs.firsts, pairs.rests)
 }
 
 // A node whose bytes are new: an atom of few bytes can be made again; the heap is tested before anything is cut.
-fn new_course(
-    a: Allocator,
-    starts: &[u32],
-    ends: &[u32],
-    firsts: &[u32],
-    rests: &[u32],
-    n: u32,
-) -> Course
-    requires { slots_sound a (atom_slots_in starts.now ends.now) (pair_slots_in firsts.now rests.now) ≡ true }
-    ensures { (x : ArgRule) → arg_rule a (atom_slots_in starts.now ends.now) n
-        ≡ says x → course_paper result ≡ new_course a x }
+fn new_course(a: &Allocator, atoms: AtomSlots, pairs: PairSlots, n: u32) -> Result<Course, Refusal>
+    requires { slots_sound a.now (atoms_of atoms) (pairs_of pairs) ≡ true }
+    ensures { said_by course_paper result ≡ visited_course a.now (node_rule a.now (atoms_of atoms.entry) (pairs_of pairs.entry) n) }
 {
-    let found = reads::node(a, starts, ends, firsts, rests, n);
-    let NodeVisitor::Buffer(start, end) = found else {
-        return Course::Abort;
+    let Ok(NodeVisitor::Buffer(start, end)) = reads::node(a, atoms, pairs, n) else {
+        return Ok(Course::Abort);
     };
     if CLONE_ATOM_LIMIT < end - start {
-        return Course::Abort;
+        return Ok(Course::Abort);
     }
-    if a.limit < a.used.bytes + a.ghosts.bytes {
-        return Course::Refuse(Code::OutOfMemory, node::NIL);
-    }
-    Course::Copy(start, end)
+    need(
+        a.used.bytes + a.ghosts.bytes <= a.limit,
+        Code::OutOfMemory,
+        NIL,
+    )?;
+    Ok(Course::Copy(start, end))
 }
 
 // By the status of the node: before the checkpoint, with old bytes, or with new ones: 5 not valid, 1 unsound slot, 12 invalid range.
+#[tactic(auto, using(crate::proofs::Visits::course_by_arg), unfolding(rules::specs::Said::need))]
 fn node_course(
-    k: Counts,
-    a: Allocator,
-    starts: &[u32],
-    ends: &[u32],
-    firsts: &[u32],
-    rests: &[u32],
+    k: &Counts,
+    a: &Allocator,
+    atoms: AtomSlots,
+    pairs: PairSlots,
     n: u32,
-) -> Course
-    requires { slots_sound a (atom_slots_in starts.now ends.now) (pair_slots_in firsts.now rests.now) ≡ true }
-    ensures { course_paper result ≡ node_course k a (arg_rule a (atom_slots_in starts.now ends.now) n) }
+) -> Result<Course, Refusal>
+    requires { slots_sound a.now (atoms_of atoms) (pairs_of pairs) ≡ true }
+    ensures { said_by course_paper result ≡ node_course k.now a.now (arg_rule a.now (atoms_of atoms.entry) n) }
 {
-    let found = arg::arg(a, starts, ends, n);
-    match found {
-        Arg::Refused(code, node) => Course::Refuse(code, node),
-        Arg::Small(_) => Course::Keep,
-        Arg::Pair(i) => {
-            if i < k.pairs {
-                return Course::Keep;
-            }
-            new_course(a, starts, ends, firsts, rests, n)
+    match arg::arg(a, atoms, n)? {
+        Arg::Small(_) => Ok(Course::Keep),
+        Arg::Pair(i) if i < k.pairs => Ok(Course::Keep),
+        Arg::Pair(_) => new_course(a, atoms, pairs, n),
+        Arg::Bytes(i, _, _) if i < k.atoms => Ok(Course::Keep),
+        Arg::Bytes(_, start, end) if start < k.bytes => {
+            need(end <= k.bytes, Code::InvalidRange, NIL)?;
+            Ok(Course::Share(start, end))
         }
-        Arg::Bytes(i, start, end) => {
-            if i < k.atoms {
-                return Course::Keep;
-            }
-            if start < k.bytes {
-                if end <= k.bytes {
-                    return Course::Share(start, end);
-                }
-                return Course::Refuse(Code::InvalidRange, node::NIL);
-            }
-            new_course(a, starts, ends, firsts, rests, n)
-        }
+        Arg::Bytes(..) => new_course(a, atoms, pairs, n),
     }
 }
 
 // All in order: 1 unsound, 11 not usable, the savings with no look at the node, then the node.
+#[tactic(auto, unfolding(rules::specs::Said::need, rules::specs::Restores::course))]
 pub fn course_of(
-    k: Counts,
-    a: Allocator,
+    k: &Counts,
+    a: &Allocator,
     bytes: &[u8],
-    starts: &[u32],
-    ends: &[u32],
-    firsts: &[u32],
-    rests: &[u32],
+    atoms: AtomSlots,
+    pairs: PairSlots,
     n: u32,
-) -> Course
-    ensures { course_paper result
-        ≡ course_rule k n a (lists_in bytes.now starts.now ends.now firsts.now rests.now) }
+) -> Result<Course, Refusal>
+    ensures value { said_by course_paper result ≡ course_rule k.now n a.now (lists bytes.now (atoms_of atoms.entry) (pairs_of pairs.entry)) }
+    ensures facts { IfOk result (λ c. Able k.now a.now (lists bytes.now (atoms_of atoms.entry) (pairs_of pairs.entry)) (course_paper c)) }
 {
-    if sound::lists_sound(
-        a,
-        bytes.len(),
-        starts.len(),
-        ends.len(),
-        firsts.len(),
-        rests.len(),
-    ) {
-        if usable(k, a, starts, ends, firsts, rests) {
-            if record::savings(k, a) < MIN_SAVINGS {
-                return Course::Abort;
-            }
-            return node_course(k, a, starts, ends, firsts, rests, n);
-        }
-        return Course::Refuse(Code::NotUsable, node::NIL);
+    need(
+        sound::lists_sound(
+            a,
+            bytes.len(),
+            atoms.starts.len(),
+            atoms.ends.len(),
+            pairs.firsts.len(),
+            pairs.rests.len(),
+        ),
+        Code::Unsound,
+        NIL,
+    )?;
+    need(usable(k, a, atoms, pairs), Code::NotUsable, NIL)?;
+    if record::savings(*k, *a) < MIN_SAVINGS {
+        return Ok(Course::Abort);
     }
-    Course::Refuse(Code::Unsound, node::NIL)
+    node_course(k, a, atoms, pairs, n)
 }

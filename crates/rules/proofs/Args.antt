@@ -8,7 +8,7 @@ use Rattle.rules.specs.declared.Allocator.{Allocator}
 use Rattle.rules.specs.Node.{Node, pair_at, bytes_at, small, bad, view, view_of, kind_of, index_of}
 use Rattle.rules.specs.Said.{Said, says, refuses}
 use Rattle.rules.specs.State.{AtomSlots, start_at, end_at}
-use Rattle.rules.specs.Reads.{Arg, pair_arg, bytes_arg, small_arg, arg_of, arg, Atom, range, value, atom_arg, atom_of}
+use Rattle.rules.specs.Reads.{Arg, pair_arg, bytes_arg, small_arg, arg_of, arg, Atom, range, value, atom_arg, atom_of, Visited, buffer, number, children}
 use Rattle.rules.proofs.Tests.{both, choice}
 use Rattle.rules.proofs.Needs.{passed}
 
@@ -91,3 +91,9 @@ inside-at a bytes (refuses code node) h f = omega arith
 
 pub inside : (a : Allocator) (t : AtomSlots) (n bytes : ℕ) → a.used.bytes ≤ bytes → Inside bytes (atom_of a t n)
 inside a t n bytes h = inside-at a bytes (atom_of a t n) h (atom_in a t n)
+
+-- what node answers: the range lies within the used bytes, a value takes 26 bits
+abbrev pub VisitedIn : Allocator → Visited → Type 0
+VisitedIn a (buffer start end) = (start ≤ end) × (end ≤ a.used.bytes)
+VisitedIn a (number v) = v < 67108864
+VisitedIn a (children first rest) = 0 ≤ 0

@@ -3,7 +3,9 @@ use Prim.Native.Nat.{ℕ, ◌≤◌}
 use mathlib.Core.Path.{◌≡◌}
 use mathlib.Core.Bool.{true, ◌&&◌}
 use borrow.Author.Tests.{leb-true}
+use lib.ListN.{length}
 use Rattle.rules.specs.declared.Allocator.{Allocator}
+use Rattle.rules.specs.declared.Slices.{Slices}
 use Rattle.rules.specs.State.{limits_sound, atoms_fit, pairs_fit, bytes_fit}
 use Rattle.rules.proofs.Tests.{both}
 use Rattle.rules.proofs.Limits.{Limits, limits}
@@ -30,6 +32,11 @@ pub record StoreLent (a : Allocator) (bytes starts ends : ℕ) : Type 0 where
 pub record ListsLent (a : Allocator) (bytes starts ends firsts rests : ℕ) : Type 0 where
   pub slots : SlotsLent a starts ends firsts rests
   pub bytes_fit : a.used.bytes ≤ bytes
+
+-- the same of the five slices by one name
+abbrev pub SlicesLent : Allocator → Slices → Type 0
+SlicesLent a s =
+    ListsLent a (length s.bytes.now) (length s.atoms.starts.now) (length s.atoms.ends.now) (length s.pairs.firsts.now) (length s.pairs.rests.now)
 
 module _ (a : Allocator) where
   pub atoms-lent : (starts ends : ℕ) → (limits_sound a && atoms_fit a starts ends) ≡ true → AtomsLent a starts ends

@@ -4,6 +4,7 @@ use Rattle.std.specs.Prelude.{ℕ, ◌≤◌, List, length}
 use Rattle.rules.specs.declared.Allocator.{Allocator}
 use Rattle.rules.specs.declared.AtomSlots as Lent
 use Rattle.rules.specs.declared.PairSlots as Pairs
+use Rattle.rules.specs.declared.Slices.{Slices}
 use Rattle.rules.specs.State.{AtomSlots, atom_slots, PairSlots, pair_slots, Lists, lists, Store, store, PairStore, pair_store, Slots, slots}
 
 -- what a reference to a lent list leads to: the list
@@ -28,6 +29,12 @@ atoms_of s = atom_slots_in s.starts.now s.ends.now
 abbrev pub pairs_of : Pairs.PairSlots → PairSlots
 pairs_of s = pair_slots_in s.firsts.now s.rests.now
 
+abbrev pub slots_of : Lent.AtomSlots → Pairs.PairSlots → Slots
+slots_of t p = slots (atoms_of t) (pairs_of p)
+
+abbrev pub lists_of : Slices → Lists
+lists_of s = lists s.bytes.now (atoms_of s.atoms) (pairs_of s.pairs)
+
 -- ---- to a call that creates, or restores
 
 abbrev pub store_in : Ref → Ref → Ref → Store
@@ -35,6 +42,9 @@ store_in bytes starts ends = store bytes (atom_slots_in starts ends)
 
 abbrev pub pair_store_in : Ref → Ref → PairStore
 pair_store_in firsts rests = pair_store (pair_slots_in firsts rests)
+
+abbrev pub pair_store_of : Pairs.PairSlots → PairStore
+pair_store_of p = pair_store (pairs_of p)
 
 abbrev pub slots_in : Ref → Ref → Ref → Ref → Slots
 slots_in starts ends firsts rests = slots (atom_slots_in starts ends) (pair_slots_in firsts rests)

@@ -36,6 +36,14 @@ pub struct PairSlots<'a> {
     pub rests: &'a [u32],
 }
 
+// The five slices that a tree is read from, lent to be read.
+#[derive(Clone, Copy)]
+pub struct Slices<'a> {
+    pub bytes: &'a [u8],
+    pub atoms: AtomSlots<'a>,
+    pub pairs: PairSlots<'a>,
+}
+
 // A plain checkpoint. A transparent one is the used counts alone.
 #[repr(C)]
 #[derive(Clone, Copy, PartialEq, Eq)]

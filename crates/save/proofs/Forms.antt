@@ -9,50 +9,18 @@ use lib.Dec.{leb}
 use lib.ListN.{length, take, drop, set, length-append, length-set}
 use lib.Seq.{slice, set_split}
 use Rattle.rules.specs.declared.Allocator.{Allocator}
-use Rattle.rules.specs.declared.NodeVisitor.{NodeVisitor}
-use Rattle.rules.specs.declared.Number.{Number}
 use Rattle.rules.specs.Node.{nil}
 use Rattle.rules.specs.Small.{small_bytes}
 use Rattle.rules.specs.Said.{Said, says, refuses, need, says_of}
-use Rattle.rules.specs.State.{AtomSlots, PairSlots, Lists, slots_sound, lists_sound, over}
-use Rattle.rules.specs.Reads.{Arg, pair_arg, bytes_arg, small_arg, arg, Visited, buffer, number, children, children_of, visited, node}
+use Rattle.rules.specs.State.{Lists, slots_sound, lists_sound, over}
+use Rattle.rules.specs.Reads.{arg, Visited, buffer, number, children, visited, node}
 use Rattle.rules.specs.Serial.{shortest_atom}
-use Rattle.rules.specs.Paper.{number_paper, visitor_paper}
-use Rattle.rules.specs.Load.{levels_of}
-use Rattle.rules.specs.Save.{next, fitted, form_pair, form_as, form_of, written, save}
+use Rattle.rules.specs.Save.{next, fitted, form_pair, form_as, form_of}
 use Rattle.rules.proofs.Tests.{both}
 use Rattle.rules.proofs.Needs.{need_true, passed}
-use Rattle.rules.proofs.Sound.{lists-lent}
-use Rattle.rules.proofs.Args.{ArgIn, arg_in}
 use Rattle.rules.proofs.Lists.{part_slice}
 use Rattle.rules.proofs.Overs.{length_over, over-over}
 use Rattle.save.specs.Saves.{formed, Accepted}
-
--- ---- what an answer says, once its variant is known
-
-pub told : {r q : Number} {x : Said ℕ} → r ≡ q → number_paper r ≡ x → number_paper q ≡ x
-told e h = ap number_paper (sym e) ∙ h
-
--- ---- what a node that passed its tests has
-
-abbrev VisitedIn : Allocator → Visited → Type 0
-VisitedIn a (buffer start end) = (start ≤ end) × (end ≤ a.used.bytes)
-VisitedIn a (number v) = v < 67108864
-VisitedIn a (children first rest) = 0 ≤ 0
-
-visited-at : (a : Allocator) (t : AtomSlots) (p : PairSlots) (r : Said Arg) (x : Visited) → ((y : Arg) → r ≡ says y → ArgIn a t y)
-    → visited a p r ≡ says x → VisitedIn a x
-unfolding children_of
-visited-at a t p (says (pair_arg i)) x f h = let e = (passed _ _ _ _ _ h).1 in pair x e
-  where
-    pair : (y : Visited) {j k : ℕ} → says (children j k) ≡ says y → VisitedIn a y
-    pair y {j} {k} e = let q : children j k ≡ y = cc in subst (VisitedIn a) q (omega arith)
-visited-at a t p (says (bytes_arg i start end)) x f h =
-    let e : buffer start end ≡ x = cc in
-    let b = f (bytes_arg i start end) refl in
-    subst (VisitedIn a) e (b.order, b.inside)
-visited-at a t p (says (small_arg v)) x f h = let e : number v ≡ x = cc in subst (VisitedIn a) e (f (small_arg v) refl)
-visited-at a t p (refuses code node) x f h = let z : ◌≡◌ {A = ℕ} 0 1 = cc in absurd (omega arith)
 
 -- ---- parts of a pair's form
 
@@ -142,23 +110,12 @@ form-level a l (suc levels) room n h = let e : suc levels - 1 ≡ levels = omega
 
 -- ---- what reads::node answers beside a sound record
 
-module _ (a : Allocator) (l : Lists) (n : ℕ) (sound : lists_sound a l ≡ true) where
-  pub seen : (r q : NodeVisitor) → visitor_paper r ≡ node a l.atoms l.pairs n → r ≡ q
-      → visitor_paper q ≡ visited a l.pairs (arg a l.atoms n)
-  unfolding node
-  seen r q h e =
-      let v : Said Visited = visited a l.pairs (arg a l.atoms n) in
-      ap visitor_paper (sym e) ∙ h ∙ ap (λ (b : Bool). need b 1 nil v) (both (slots_sound a l.atoms l.pairs) _ sound).0 ∙ need_true 1 nil v
-
-  pub buffer_in : (start end : ℕ) → says (buffer start end) ≡ visited a l.pairs (arg a l.atoms n)
-      → (start ≤ end) × (end ≤ length l.bytes) × (end ≤ 4294967295)
-  buffer_in start end e =
-      let p = visited-at a l.atoms l.pairs (arg a l.atoms n) (buffer start end) (arg_in a l.atoms n) (sym e) in
-      let s = lists-lent a (length l.bytes) _ _ _ _ sound in
-      (p.0, omega (arith, p.1, s.bytes_fit), omega (arith, p.1, s.slots.atoms.limits.bytes))
-
-  pub number_in : (v : ℕ) → says (number v) ≡ visited a l.pairs (arg a l.atoms n) → v < 67108864
-  number_in v e = visited-at a l.atoms l.pairs (arg a l.atoms n) (number v) (arg_in a l.atoms n) (sym e)
+pub seen : (a : Allocator) (l : Lists) (n : ℕ) (s : Said Visited) → lists_sound a l ≡ true → s ≡ node a l.atoms l.pairs n
+    → s ≡ visited a l.pairs (arg a l.atoms n)
+unfolding node
+seen a l n s sound h =
+    let v : Said Visited = visited a l.pairs (arg a l.atoms n) in
+    h ∙ ap (λ (b : Bool). need b 1 nil v) (both (slots_sound a l.atoms l.pairs) _ sound).0 ∙ need_true 1 nil v
 
 -- ---- the measuring pass
 
@@ -330,60 +287,7 @@ module _ (a : Allocator) (l : Lists) (levels n : ℕ) (file : List ℕ) (at : �
         ∙ over-over file (0xff ∷ split.one) split.other at (omega (arith, one_fits, open_room))
         ∙ ap (λ (v : List ℕ). over file at v) split.whole
 
-    pub pair-long : (after : List ℕ) → after ≡ over mid place (formed (below (length mid - place) rest)) → length after ≡ length file
-    pair-long after h =
-        let form : List ℕ = formed (form_of a l levels (length file - at) n) in
-        let k : length form ≤ length file - at = form-fits a l levels (length file - at) n form accepted in
-        ap length (pair_put after h) ∙ length_over file form at (omega (arith, open_room))
-
     pub pair-next : (end : ℕ) → end ≡ place + length (formed (below (length mid - place) rest))
         → end ≡ at + length (formed (form_of a l levels (length file - at) n))
     pair-next end h =
         omega (arith, next-is, ap length (form-is _ _ other_is), length-append split.one split.other, ap length split.whole)
-
--- ---- the whole write
-
-pub unsaved : (a : Allocator) (l : Lists) (n : ℕ) (file : List ℕ) → lists_sound a l ≡ false
-    → record { said = refuses 1 nil; file = file } ≡ save a l n file
-unfolding save need
-unsaved a l n file h = rw h
-
--- the room is all of the file
-module _ (a : Allocator) (l : Lists) (n : ℕ) (file : List ℕ) (sound : lists_sound a l ≡ true) where
-  save-is : save a l n file ≡ written (form_of a l levels_of (length file) n) file
-  unfolding save need
-  save-is = rw sound
-
-  pub save-refused : (code m : ℕ) → refuses code m ≡ says_of length (form_of a l levels_of (length file) n)
-      → record { said = refuses code m; file = file } ≡ save a l n file
-  save-refused code m h = at (form_of a l levels_of (length file) n) refl h
-    where
-      at : (s : Said (List ℕ)) → form_of a l levels_of (length file) n ≡ s → refuses code m ≡ says_of length s
-          → record { said = refuses code m; file = file } ≡ save a l n file
-      at (says v) e q = let z : ◌≡◌ {A = ℕ} 0 1 = cc in absurd (omega arith)
-      at (refuses c k) e q =
-          let w : save a l n file ≡ record { said = refuses c k; file = file } = save-is ∙ ap (λ (s : Said (List ℕ)). written s file) e in
-          let r : code ≡ c = cc in
-          let d : m ≡ k = cc in
-          rw (r, d) (sym w)
-
-  all_room : length file - 0 ≡ length file
-  all_room = omega arith
-
-  pub save-accepted : (u : ℕ) → says u ≡ says_of length (form_of a l levels_of (length file) n)
-      → Accepted (form_of a l levels_of (length file - 0) n)
-  save-accepted u h = rw all_room (at (form_of a l levels_of (length file) n) h)
-    where
-      at : (s : Said (List ℕ)) → says u ≡ says_of length s → Accepted s
-      at (says v) q = refl
-      at (refuses code node) q = let z : ◌≡◌ {A = ℕ} 0 1 = cc in absurd (omega arith)
-
-  pub saved : (after : List ℕ) (end : ℕ) → Accepted (form_of a l levels_of (length file - 0) n)
-      → after ≡ over file 0 (formed (form_of a l levels_of (length file - 0) n))
-      → end ≡ 0 + length (formed (form_of a l levels_of (length file - 0) n))
-      → record { said = says end; file = after } ≡ save a l n file
-  saved after end h p q =
-      let k : Accepted (form_of a l levels_of (length file) n) = rw all_room at h in
-      let v = formed (form_of a l levels_of (length file) n) in
-      let e : end ≡ length v = rw all_room at q ∙ omega arith in
-      rw (e, p, all_room) (sym (save-is ∙ ap (λ (s : Said (List ℕ)). written s file) k))

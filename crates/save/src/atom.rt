@@ -1,5 +1,7 @@
 // An atom's shortest form: a byte below 80 for itself, else the shortest prefix and the bytes.
-ghost use Rattle.std.specs.Prelude.{◌≡◌, ◌&&◌, ◌+◌, ◌≤◌, ◌<◌, eqb, ltb, length, get_or};
+#![tactic(auto)]
+
+ghost use Rattle.std.specs.Prelude.{◌≡◌, ◌&&◌, ◌+◌, ◌≤◌, ◌<◌, eqb, ltb, length, get_or, take, drop, ◌-◌};
 ghost use Rattle.rules.specs.Small.{small_bytes};
 ghost use Rattle.rules.specs.State.{over};
 ghost use Rattle.rules.specs.Serial.{prefix as prefix_of, extra_for, shortest_atom};
@@ -8,10 +10,7 @@ ghost use Rattle.rules.specs.Serial.{prefix as prefix_of, extra_for, shortest_at
 fn alone(v: &[u8]) -> bool
     ensures { result ≡ (eqb (length v.now) 1 && ltb (get_or v.now 0 0) 0x80) }
 {
-    if v.len() == 1 {
-        return v[0] < 0x80;
-    }
-    false
+    v.len() == 1 && v[0] < 0x80
 }
 
 // How many bytes the form takes.
@@ -19,11 +18,10 @@ pub fn form_len(v: &[u8]) -> usize
     requires { length v.now ≤ 4294967295 }
     ensures { result ≡ length (shortest_atom v.now) }
 {
-    let len = v.len();
     if alone(v) {
         return 1;
     }
-    1 + prefix::extra_for(len as u64) + len
+    1 + prefix::extra_for(v.len() as u64) + v.len()
 }
 
 // Writes the shortest prefix for a length, and says where the bytes begin. The length is big-endian, with the base added to its first byte.
@@ -34,7 +32,7 @@ fn put_prefix(len: usize, file: &mut [u8], at: usize) -> usize
 {
     let extra = prefix::extra_for(len as u64);
     node::put_be(&mut file[at..], len as u64, extra + 1);
-    file[at] = file[at] + prefix::base(extra) as u8;
+    file[at] += prefix::base(extra) as u8;
     at + 1 + extra
 }
 
@@ -54,14 +52,23 @@ pub fn put_form(v: &[u8], file: &mut [u8], at: usize) -> usize
     from + len
 }
 
-// How many bytes the form of a small atom takes: its bytes are the last of the value's four.
+// A small atom's bytes: they are the last of the value's four, from the place beside them.
+fn small_bytes(v: u32) -> ([u8; 4], usize)
+    requires { v < 67108864 }
+    ensures bytes { take (4 - result.1) (drop result.1 result.0) ≡ small_bytes v }
+    ensures within { result.1 ≤ 4 }
+{
+    let mut buf = [0u8; 4];
+    node::put_be(&mut buf, v as u64, 4);
+    (buf, 4 - node::len_for_value(v))
+}
+
+// How many bytes the form of a small atom takes.
 pub fn small_len(v: u32) -> usize
     requires { v < 67108864 }
     ensures { result ≡ length (shortest_atom (small_bytes v)) }
 {
-    let mut buf = [0u8; 4];
-    node::put_be(&mut buf, v as u64, 4);
-    let from = 4 - node::len_for_value(v);
+    let (buf, from) = small_bytes(v);
     form_len(&buf[from..])
 }
 
@@ -71,8 +78,6 @@ pub fn put_small(v: u32, file: &mut [u8], at: usize) -> usize
     ensures written { file.new ≡ over file.old at (shortest_atom (small_bytes v)) }
     ensures end { result ≡ at + length (shortest_atom (small_bytes v)) }
 {
-    let mut buf = [0u8; 4];
-    node::put_be(&mut buf, v as u64, 4);
-    let from = 4 - node::len_for_value(v);
+    let (buf, from) = small_bytes(v);
     put_form(&buf[from..], file, at)
 }

@@ -1,2 +1,3 @@
 -- The text of the request program as definitions.
+pub mod Page
 pub mod Text

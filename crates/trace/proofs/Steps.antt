@@ -1,30 +1,23 @@
 -- What every machine of a run has is kept by every record. Assumes nothing.
-use Prim.Native.Nat.{ℕ, ◌+◌, ◌≤◌, ◌<◌}
-use mathlib.Core.Path.{◌≡◌, refl, ap, ap₂, ◌∙◌}
-use mathlib.Core.Logic.{◌⊎◌, inl, inr}
-use mathlib.Core.Bool.{cond}
-use mathlib.Core.List.{List}
-use native.Mathlib.Omega.{arith}
-use lib.Dec.{eqb}
-use lib.ListN.{length}
+use Rattle.std.proofs.Common.{ℕ, ◌+◌, ◌≤◌, ◌<◌, ◌≡◌, List, length, refl, sym, ap, ◌∙◌, arith}
+use mathlib.Core.Path.{ap₂}
+use Rattle.std.specs.Prelude.{Option, None, Some, IfSome}
 use Rattle.rules.specs.declared.Allocator.{Allocator}
 use Rattle.rules.specs.Small.{Octets}
 use Rattle.rules.specs.State.{Lists}
-use Rattle.rules.proofs.Tests.{choice}
 use Rattle.rules.proofs.Limits.{Limits}
 use Rattle.runs.specs.Wf.{Sound}
-use Rattle.request.specs.declared.Frame.{Frame}
-use Rattle.request.specs.declared.Frame.TheVariants.{Whole, Short}
-use Rattle.request.specs.Request.{request_at, frame_of, frame_size}
+use Rattle.request.specs.declared.Request as Code
+use Rattle.request.specs.declared.Request.TheVariants.{Make, TakeCheckpoint, Restore}
+use Rattle.request.specs.Request.{Request, making, taking, restoring, bad, request_is, Frame, request_in, request_at, frame_of, frame_size}
 use Rattle.request.proofs.Frames.{frame_fits}
 use Rattle.request.proofs.Fine.{request_fine}
 use Rattle.machine.specs.declared.Machine.{Machine}
-use Rattle.machine.specs.declared.Did.{Did}
-use Rattle.machine.specs.Machine.{Acted, acted, act_of}
+use Rattle.machine.specs.declared.Told.{Told}
+use Rattle.machine.specs.Machine.{told_of, did_of, Acted, acted, act_of}
 use Rattle.machine.specs.Sane.{Ready}
 use Rattle.machine.proofs.Kept.{Kept, act_kept}
-use Rattle.trace.specs.declared.step.Step.{Step}
-use Rattle.trace.specs.Step.{with_row, closed, stepped, closed_on, step_on}
+use Rattle.trace.specs.Step.{with_row, bytes_of, Stepped, stepped, step_on}
 
 limits_of : (a : Allocator) (l : Lists) → Sound a l → Limits a
 limits_of a l s = omega arith
@@ -48,31 +41,43 @@ counted_ready m x h k = record {
 pub closable : (m : Machine) (x : Acted) → m.shown < 536870912 → Kept m x → (x.did.machine.shown < 18446744073709551615) × Limits x.did.machine.state
 closable m x h k = (omega (arith, k.rows-shown), limits_of x.did.machine.state x.left k.formed.sound)
 
--- what was asked, what it did and its row make a step
-pub stepped_by : (m : Machine) (l l' : Lists) (i : List ℕ) (d : Did) (t : Step) (size : ℕ) → t ≡ closed d size → acted d l' ≡ act_of m l (request_at i)
-    → size ≡ frame_size (frame_of i) → stepped t l' ≡ step_on m l i
-stepped_by m l l' i d t size e f g = ap (λ (x : Step). stepped x l') e ∙ ap₂ closed_on f g
-
-pub record StepFacts (m : Machine) (i : List ℕ) (t : Step) (l' : Lists) : Type 0 where
-  pub ready : Ready t.machine l'
-  pub counts : t.machine.shown ≡ m.shown + 1
-  pub size_is : (t.size ≡ 0) ⊎ (4 ≤ t.size)
-  pub within : t.size ≤ length i
-
--- the size of a record: none where 16 ended the run
-size_facts : (code : ℕ) (i : List ℕ) (f : Frame) → frame_of i ≡ f
-    → ((cond (eqb code 16) 0 (frame_size f) ≡ 0) ⊎ (4 ≤ cond (eqb code 16) 0 (frame_size f))) × (cond (eqb code 16) 0 (frame_size f) ≤ length i)
-size_facts code i f e = choice P (eqb code 16) _ _ (λ t. (inl refl, omega arith)) (λ t. go f e)
+-- what was asked and what it did make a step; a request that the code has is not a bad one
+pub step_made : (m : Machine) (l : Lists) (i : List ℕ) (a : Acted) (r : Code.Request) (n : ℕ)
+    → a ≡ act_of m l (request_is r) → request_is r ≡ request_at i → n ≡ frame_size (frame_of i) → stepped a (Some n) ≡ step_on m l i
+step_made m l i a r n e f g = ap₂ stepped (e ∙ ap (act_of m l) f) (ap Some g ∙ sym (whole r _) ∙ ap (λ (x : Request). bytes_of x (frame_size (frame_of i))) f)
   where
-    P : ℕ → Type 0
-    P n = ((n ≡ 0) ⊎ (4 ≤ n)) × (n ≤ length i)
+    whole : (r : Code.Request) (n : ℕ) → bytes_of (request_is r) n ≡ Some n
+    whole (Make m) n = refl
+    whole TakeCheckpoint n = refl
+    whole (Restore way number) n = refl
 
-    go : (x : Frame) → frame_of i ≡ x → P (frame_size x)
-    go Short q = (inl refl, omega arith)
-    go (Whole kind len) q = (inr (omega arith), frame_fits i kind len q)
+pub step-ended : (m : Machine) (l : Lists) (i : List ℕ) (told : Told) → told ≡ told_of 16 None → bad ≡ request_at i → stepped (acted (did_of m told) l) None ≡ step_on m l i
+step-ended m l i told e f =
+    ap (λ (x : Told). stepped (acted (did_of m x) l) None) e ∙ ap (λ (x : Request). stepped (act_of m l x) (bytes_of x (frame_size (frame_of i)))) f
 
-pub step_facts : (m : Machine) (l : Lists) (i : List ℕ) → Ready m l → Octets i → m.shown < 536870912 → StepFacts m i (step_on m l i).step (step_on m l i).left
+bytes_if : (P : ℕ → Type 0) (r : Request) (n : ℕ) → P n → IfSome (bytes_of r n) P
+bytes_if P (making c) n h = h
+bytes_if P taking n h = h
+bytes_if P (restoring way number) n h = h
+bytes_if P bad n h = tt
+
+-- a record that does not end the run takes at least 4 bytes, which are there
+pub size_facts : (i : List ℕ) → IfSome (bytes_of (request_at i) (frame_size (frame_of i))) (λ n. (4 ≤ n) × (n ≤ length i))
+size_facts i = go (frame_of i) (frame_fits i)
+  where
+    Fits : ℕ → Type 0
+    Fits n = (4 ≤ n) × (n ≤ length i)
+
+    go : (f : Option Frame) → frame_size f ≤ length i → IfSome (bytes_of (request_in f) (frame_size f)) Fits
+    go None h = tt
+    go (Some f) h = bytes_if Fits (request_in (Some f)) (frame_size (Some f)) (omega arith, h)
+
+pub record StepFacts (m : Machine) (i : List ℕ) (t : Stepped) : Type 0 where
+  pub ready : Ready t.machine t.left
+  pub counts : t.machine.shown ≡ m.shown + 1
+  pub size_is : IfSome t.size (λ n. (4 ≤ n) × (n ≤ length i))
+
+pub step_facts : (m : Machine) (l : Lists) (i : List ℕ) → Ready m l → Octets i → m.shown < 536870912 → StepFacts m i (step_on m l i)
 step_facts m l i h o n =
     let k = record_kept m l h i o in
-    let z = size_facts (act_of m l (request_at i)).did.told.code i (frame_of i) refl in
-    record { ready = counted_ready m (act_of m l (request_at i)) n k; counts = ap (λ (x : ℕ). x + 1) k.rows-shown; size_is = z.0; within = z.1 }
+    record { ready = counted_ready m (act_of m l (request_at i)) n k; counts = ap (λ (x : ℕ). x + 1) k.rows-shown; size_is = size_facts i }

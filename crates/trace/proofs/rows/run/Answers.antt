@@ -4,4 +4,6 @@ use Rattle.trace.proofs.Traces.{along_last}
 use Rattle.trace.proofs.rows.run.Goals as goal
 
 pub returns : goal.returns
-returns c = along_last _ _ _ _ _ _ _ _ _ _ _ c.loop-at.invariant _ c.finish-2.result (omega arith) c.finish-2.ensures
+returns c =
+    let last = c.put_end-2.ensures in
+    along_last _ _ _ _ _ _ _ _ _ c.loop-at.invariant _ (omega arith) last.text last.capacity last.bound

@@ -7,7 +7,7 @@ use Rattle.trace.proofs.rows.run.Given as goal
 abbrev pub invariant-loop-at : goal.invariant-loop-at
 invariant-loop-at l =
     let f = l.fn in
-    Along f.m0 (lists_in f.bytes f.starts f.ends f.firsts f.rests) l.input f.out f.at0 f.w0 (lists_in l.bytes l.starts l.ends l.firsts l.rests) l.out l.m l.at l.w
+    Along f.m (lists_in f.bytes f.starts f.ends f.firsts f.rests) l.input f.at0 f.page (lists_in l.bytes l.starts l.ends l.firsts l.rests) l.page l.m l.at
 
 abbrev pub decreases-loop-at : goal.decreases-loop-at
 decreases-loop-at l = length l.input - l.at

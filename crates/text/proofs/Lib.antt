@@ -1,2 +1,0 @@
--- Laws about texts, for whoever proves something with them.
-pub mod Puts

@@ -1,0 +1,9 @@
+-- A page: the text so far, and how many bytes it takes in all.
+use Rattle.std.specs.Prelude.{ℕ, List, length, take}
+use Rattle.text.specs.declared.page.Page.{Page}
+
+abbrev pub written : Page → List ℕ
+written p = take p.at p.buf.now
+
+abbrev pub capacity : Page → ℕ
+capacity p = length p.buf.now
