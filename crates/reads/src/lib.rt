@@ -60,20 +60,13 @@ pub fn node(
         Arg::Bytes(_, start, end) => Ok(NodeVisitor::Buffer(start, end)),
         Arg::Small(v) => Ok(NodeVisitor::U32(v)),
         Arg::Pair(i) => {
-            let first = pairs.firsts[i];
-            let rest = pairs.rests[i];
-            need(
-                sound::children_sound(first, rest, a.used.atoms, i),
-                Code::Unsound,
-                NIL,
-            )?;
+            let (first, rest) = children(a, pairs, i)?;
             Ok(NodeVisitor::Pair(first, rest))
         }
     }
 }
 
 // Whether a node is an atom, or its two children, beside a sound record.
-#[tactic(auto, unfolding(rules::specs::Said::need, rules::specs::Reads::children_of))]
 fn sexp_of(a: &Allocator, pairs: PairSlots, n: u32) -> Result<SExp, Refusal>
     requires { PairsWithin a.now pairs.firsts.now pairs.rests.now }
     ensures { said_by sexp_paper result ≡ sexp_of a.now (pairs_of pairs.entry) (view n) }
@@ -81,13 +74,7 @@ fn sexp_of(a: &Allocator, pairs: PairSlots, n: u32) -> Result<SExp, Refusal>
     match node::view(n) {
         View::Pair(i) => {
             need(i < a.used.pairs, Code::NotValid, NIL)?;
-            let first = pairs.firsts[i];
-            let rest = pairs.rests[i];
-            need(
-                sound::children_sound(first, rest, a.used.atoms, i),
-                Code::Unsound,
-                NIL,
-            )?;
+            let (first, rest) = children(a, pairs, i)?;
             Ok(SExp::Pair(first, rest))
         }
         View::Bytes(i) => {
