@@ -13,8 +13,8 @@ ghost use Rattle.rules.specs.Reads.{atom_len, small_number, node as node_rule, c
 ghost use Rattle.rules.specs.Paper.{said_in, said_by, option_paper, visitor_paper, sexp_paper, next_paper, status_paper};
 
 use rules::{
-    Allocator, Arg, AtomSlots, Code, Counts, NIL, NodeStatus, NodeVisitor, PairSlots,
-    Refusal, SExp, View, need,
+    Allocator, Arg, AtomSlots, Code, Counts, NIL, NodeStatus, NodeVisitor, PairSlots, Refusal,
+    SExp, View, need,
 };
 use state::sound;
 
