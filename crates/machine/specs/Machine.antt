@@ -13,7 +13,6 @@ use Rattle.rules.specs.Whole.{St, Whole, call, Way, plainly, transparently, with
 use Rattle.request.specs.Request.{Request, making, taking, restoring, bad}
 use Rattle.machine.specs.declared.Machine.{Machine}
 use Rattle.machine.specs.declared.Told.{Told}
-use Rattle.machine.specs.declared.calls.Called.{Called}
 
 -- ---- the machine
 
@@ -77,13 +76,6 @@ pub record Came : Type 0 where
 
 abbrev pub came_of : Whole (math.Option ℕ) → Came
 came_of o = record { told = tells o.said; next = o.next }
-
--- the same of the code's answer
-abbrev pub called_of : Said (math.Option ℕ) → Allocator → Called
-called_of said a = record { told = tells said; state = a }
-
-abbrev pub came : Called → Lists → Came
-came r l = record { told = r.told; next = state_in r.state l }
 
 -- a request did something: the machine after it, and what it is told
 pub record Did : Type 0 where

@@ -3,18 +3,19 @@
 
 mod calls;
 
-ghost use Rattle.std.specs.Prelude.{◌≡◌, length};
-ghost use Rattle.rules.specs.Node.{nil};
-ghost use Rattle.rules.specs.Said as Said;
+ghost use Rattle.std.specs.Prelude.{◌≡◌};
+ghost use Rattle.std.proofs.Math.Option.{none};
+ghost use Rattle.rules.specs.Said.{says, says_of};
+ghost use Rattle.rules.specs.State.{atom_slots, lists};
 ghost use Rattle.rules.specs.Record.{checkpoint};
-ghost use Rattle.rules.specs.Lent.{lists_in};
-ghost use Rattle.rules.specs.Paper.{code_number, maybe_paper};
-ghost use Rattle.request.specs.Request.{request_is, way_of};
-ghost use Rattle.machine.specs.Machine.{told_of, fresh_machine, with_state, with_restored, did_of, did_bad, did_take, shown_by, did_restore, acted, act_of};
+ghost use Rattle.rules.specs.Lent.{lists_in, pairs_of};
+ghost use Rattle.rules.specs.Paper.{said_by, option_paper, verdict_paper, maybe_paper};
+ghost use Rattle.request.specs.Request.{request_is, way_of, restoring};
+ghost use Rattle.machine.specs.Machine.{told_of, tells, fresh_machine, with_state, did_of, did_take, shown_by, did_restore, acted, act_of};
 ghost use Rattle.machine.specs.Sane.{Sane};
 
 use request::{Request, Way};
-use rules::{Allocator, Checkpoint, Code, Counts, MaybeRestore, Restored, Taken};
+use rules::{Allocator, Checkpoint, Code, Counts, MaybeRestore, NIL, PairSlots, Refusal, need};
 
 // The code of a bad record, which ends the run: the request program's own.
 pub const BAD_RECORD: usize = 16;
@@ -31,28 +32,30 @@ pub struct Machine {
     pub checkpoints: [Checkpoint; 32],
 }
 
-// What a request is told: the code, 0 where it was accepted, and the node that the answer names, if it does.
+// What a request is told: the code, 0 where it was accepted, and the node that the answer names, if it does; a refusal names the node of
+// document 01's table.
 #[derive(Clone, Copy)]
 pub struct Told {
     pub code: usize,
     pub node: Option<u32>,
 }
 
-// A refusal names the node of document 01's table.
-fn refused(code: Code, n: u32) -> Told
-    ensures { result ≡ told_of (code_number code) (Some n) }
-{
-    Told {
-        code: node::code::number_of(code) as usize,
-        node: Some(n),
-    }
-}
+impl From<Result<Option<u32>, Refusal>> for Told {
+    ghost use Rattle.std.specs.Prelude.{◌≡◌};
+    ghost use Rattle.rules.specs.Paper.{said_by, option_paper};
+    ghost use Rattle.machine.specs.Machine.{tells};
 
-// What was accepted.
-fn accepted(node: Option<u32>) -> Told
-    ensures { result ≡ told_of 0 node }
-{
-    Told { code: 0, node }
+    ghost from_gives = { λ answer told. told ≡ tells (said_by option_paper answer) };
+
+    fn from(answer: Result<Option<u32>, Refusal>) -> Told {
+        match answer {
+            Ok(node) => Told { code: 0, node },
+            Err(Refusal { code, node }) => Told {
+                code: u32::from(code) as usize,
+                node: Some(node),
+            },
+        }
+    }
 }
 
 impl Machine {
@@ -79,66 +82,69 @@ impl Machine {
     }
 
     // A checkpoint goes into the next free place; numbers are never freed, and the 33rd takes none.
-    fn keep(&mut self, k: Checkpoint) -> Told
+    fn keep(&mut self, k: Checkpoint) -> Result<(), Refusal>
         requires { Sane self.old }
-        ensures { did_of self.new result ≡ did_take self.old (Said.says k) }
+        ensures { did_of self.new (tells (says_of (λ d. none) (verdict_paper result))) ≡ did_take self.old (says k) }
     {
-        let i = self.taken;
-        if CHECKPOINTS <= i {
-            return refused(Code::Full, node::NIL);
-        }
-        self.checkpoints[i] = k;
-        self.taken = i + 1;
-        accepted(None)
+        need(self.taken < CHECKPOINTS, Code::Full, NIL)?;
+        self.checkpoints[self.taken] = k;
+        self.taken += 1;
+        Ok(())
     }
 
     // Takes a plain checkpoint.
-    fn take(&mut self) -> Told
+    fn take(&mut self) -> Result<(), Refusal>
         requires { Sane self.old }
-        ensures { did_of self.new result ≡ did_take self.old (checkpoint self.old.state) }
+        ensures { did_of self.new (tells (says_of (λ d. none) (verdict_paper result))) ≡ did_take self.old (checkpoint self.old.state) }
     {
-        match state::checkpoint(self.state) {
-            Taken::Plain(k) => self.keep(k),
-            Taken::Refused(code, n) => refused(code, n),
-        }
+        let k = state::checkpoint(&self.state)?;
+        self.keep(k)
     }
 
-    // After an accepted restore to k that left the record a: what it released is counted.
-    fn restored(&mut self, k: Counts, a: Allocator)
-        requires { Sane self.old }
-        ensures { self.new ≡ with_restored self.old k a }
+    // After an accepted restore to k of the record as it was before: what it released is counted; Aborted restored nothing, so it releases
+    // nothing. Answers the node that the row shows.
+    fn back(
+        &mut self,
+        k: &Counts,
+        way: Way,
+        before: Allocator,
+        outcome: MaybeRestore,
+    ) -> Option<u32>
+        requires { Sane (with_state self.old before) }
+        ensures { did_of self.new (told_of 0 result)
+            ≡ did_restore (with_state self.old before) k.now (way_of way) (says (maybe_paper outcome)) self.old.state }
     {
-        self.released += state::record::savings(k, self.state);
-        self.state = a;
+        let shown = match outcome {
+            MaybeRestore::Aborted => return None,
+            MaybeRestore::NoReplace => shown_by(way),
+            MaybeRestore::Replace(n) => Some(n),
+        };
+        self.released += state::record::savings(*k, before);
+        shown
     }
 
-    // A restore to k: Aborted restored nothing, so it releases nothing.
-    fn back(&mut self, k: Counts, way: Way, restored: Restored) -> Told
+    // Goes back to the checkpoint of a number. One that was not taken gives 11, before anything else.
+    fn restore(
+        &mut self,
+        bytes: &mut [u8],
+        starts: &mut [u32],
+        ends: &mut [u32],
+        pairs: PairSlots,
+        way: Way,
+        i: usize,
+    ) -> Result<Option<u32>, Refusal>
         requires { Sane self.old }
-        ensures { did_of self.new result ≡ did_restore self.old k (way_of way) (maybe_paper restored.answer) restored.state }
+        ensures { acted (did_of self.new (tells (said_by option_paper result))) (lists bytes.new (atom_slots starts.new ends.new) (pairs_of pairs.entry))
+            ≡ act_of self.old (lists bytes.old (atom_slots starts.old ends.old) (pairs_of pairs.entry)) (restoring (way_of way) i) }
     {
-        let a = restored.state;
-        match restored.answer {
-            MaybeRestore::NoReplace => {
-                self.restored(k, a);
-                accepted(shown_by(way))
-            }
-            MaybeRestore::Replace(n) => {
-                self.restored(k, a);
-                accepted(Some(n))
-            }
-            MaybeRestore::Aborted => {
-                self.state = a;
-                accepted(None)
-            }
-            MaybeRestore::Refused(code, n) => {
-                self.state = a;
-                refused(code, n)
-            }
-        }
+        need(i < self.taken, Code::NotUsable, NIL)?;
+        let k = self.checkpoints[i];
+        let before = self.state;
+        let outcome = calls::go_back(&mut self.state, bytes, starts, ends, pairs, way, &k)?;
+        Ok(self.back(&k.used, way, before, outcome))
     }
 
-    // What a request does. A restore to a number that was not taken gives 11, before anything else.
+    // What a request does.
     pub fn act(
         &mut self,
         bytes: &mut [u8],
@@ -147,26 +153,19 @@ impl Machine {
         firsts: &mut [u32],
         rests: &mut [u32],
         request: Request,
-    ) -> Told
+    ) -> Result<Option<u32>, Refusal>
         requires { Sane self.old }
-        ensures { acted (did_of self.new result) (lists_in bytes.new starts.new ends.new firsts.new rests.new)
+        ensures { acted (did_of self.new (tells (said_by option_paper result))) (lists_in bytes.new starts.new ends.new firsts.new rests.new)
             ≡ act_of self.old (lists_in bytes.old starts.old ends.old firsts.old rests.old) (request_is request.entry) }
     {
-        let a = self.state;
         match request {
             Request::Make(making) => {
-                let called = calls::make(a, bytes, starts, ends, firsts, rests, making);
-                self.state = called.state;
-                called.told
+                calls::make(&mut self.state, bytes, starts, ends, firsts, rests, making)
             }
-            Request::TakeCheckpoint => self.take(),
+            Request::TakeCheckpoint => self.take().map(|_| None),
             Request::Restore(way, i) => {
-                if self.taken <= i {
-                    return refused(Code::NotUsable, node::NIL);
-                }
-                let k = self.checkpoints[i];
-                let restored = calls::go_back(a, bytes, starts, ends, firsts, rests, way, k);
-                self.back(k.used, way, restored)
+                let pairs = PairSlots { firsts, rests };
+                self.restore(bytes, starts, ends, pairs, way, i)
             }
         }
     }

@@ -7,7 +7,7 @@ ghost use Rattle.std.specs.Prelude.{◌+◌, ◌≤◌};
 
 use hex::Hex;
 use reads::part;
-use rules::{Allocator, AtomSlots, NodeVisitor, PairSlots};
+use rules::{Allocator, NodeVisitor, Slices};
 use std::io::{Result, Write};
 
 // No outline goes deeper, for each level takes some of the stack; a file that is read has no more levels.
@@ -17,9 +17,7 @@ pub const DEEPEST: usize = 4096;
 #[derive(Clone, Copy)]
 pub struct Tree<'a> {
     pub a: &'a Allocator,
-    pub bytes: &'a [u8],
-    pub atoms: AtomSlots<'a>,
-    pub pairs: PairSlots<'a>,
+    pub lists: Slices<'a>,
 }
 
 impl Tree<'_> {
@@ -35,8 +33,9 @@ impl Tree<'_> {
         if left == 0 {
             return Ok(());
         }
+        let lists = self.lists;
         write!(to, "{:1$}", "", 2 * level)?;
-        match reads::node(self.a, self.atoms, self.pairs, n) {
+        match reads::node(self.a, lists.atoms, lists.pairs, n) {
             Ok(NodeVisitor::Pair(first, rest)) => {
                 writeln!(to, "pair {n}{}", if left == 1 { " .." } else { "" })?;
                 self.subtree(to, first, level + 1, left - 1)?;
@@ -51,8 +50,9 @@ impl Tree<'_> {
     // The rest of an atom's line: its kind, its number and its bytes; an empty atom has none.
     fn atom<W: Write>(&self, to: &mut W, kind: &str, n: u32) -> Result<()> {
         let mut scratch = [0u8; 4];
-        let _ = part::fill(self.a, self.bytes, self.atoms, &mut scratch, n);
-        let part = part::atom(self.a, self.bytes, self.atoms, &scratch, n);
+        let Slices { bytes, atoms, .. } = self.lists;
+        let _ = part::fill(self.a, bytes, atoms, &mut scratch, n);
+        let part = part::atom(self.a, bytes, atoms, &scratch, n);
         if part.is_empty() {
             return writeln!(to, "{kind} {n}");
         }

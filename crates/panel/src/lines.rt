@@ -5,8 +5,19 @@ use std::io::Write;
 
 // A row of the table: what lies in the slots, what is counted beside it, and what consensus counts in all. A record that a load leaves is sound,
 // and none of its counts is refused.
-fn row<W: Write>(to: &mut W, name: &str, used: Result<usize, Refusal>, ghosts: usize, total: Result<usize, Refusal>) -> io::Result<()> {
-    writeln!(to, "{name} {} {ghosts} {}", used.unwrap_or(0), total.unwrap_or(0))
+fn row<W: Write>(
+    to: &mut W,
+    name: &str,
+    used: Result<usize, Refusal>,
+    ghosts: usize,
+    total: Result<usize, Refusal>,
+) -> io::Result<()> {
+    writeln!(
+        to,
+        "{name} {} {ghosts} {}",
+        used.unwrap_or(0),
+        total.unwrap_or(0)
+    )
 }
 
 // The table of a record's counts.
@@ -51,10 +62,5 @@ fn words(code: Code) -> &'static str {
 
 // Why a file was not loaded, and the place of the item at fault.
 pub fn refusal<W: Write>(to: &mut W, code: Code, at: usize) -> io::Result<()> {
-    writeln!(
-        to,
-        "refused {} at {at}: {}",
-        u32::from(code),
-        words(code)
-    )
+    writeln!(to, "refused {} at {at}: {}", u32::from(code), words(code))
 }

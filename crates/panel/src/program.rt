@@ -1,7 +1,7 @@
 // A program file that was read: its length, its root, what was counted, and its outline.
 use super::lines;
 use outline::Tree;
-use rules::Answer;
+use rules::{AtomSlots, Fault, Loaded, PairSlots, Slices};
 use std::io::{Result, Write};
 
 // Writes a file's length, and what a load of it into a fresh allocator leaves: the root, the counts, the outline; or the refusal and the
@@ -15,9 +15,9 @@ pub fn show<W: Write>(to: &mut W, f: &[u8], depth: usize) -> Result<()> {
     let mut firsts = [0u32; 65536];
     let mut rests = [0u32; 65536];
     writeln!(to, "bytes {}", f.len())?;
-    let fresh = state::record::fresh(state::record::TOP);
-    let loaded = load::load(
-        fresh,
+    let mut a = state::record::fresh(state::record::TOP);
+    let root = load::load(
+        &mut a,
         &mut bytes,
         &mut starts,
         &mut ends,
@@ -25,24 +25,29 @@ pub fn show<W: Write>(to: &mut W, f: &[u8], depth: usize) -> Result<()> {
         &mut rests,
         f,
     );
-    let a = &loaded.state;
-    match loaded.answer {
-        Answer::Node(root) => {
-            writeln!(to, "root {root}")?;
-            lines::counts(to, a)?;
-            let tree = Tree {
-                a,
-                bytes: &bytes,
+    match root {
+        Ok(Loaded { node, .. }) => {
+            writeln!(to, "root {node}")?;
+            lines::counts(to, &a)?;
+            let atoms = AtomSlots {
                 starts: &starts,
                 ends: &ends,
+            };
+            let pairs = PairSlots {
                 firsts: &firsts,
                 rests: &rests,
             };
-            tree.outline(to, root, depth)
+            let lists = Slices {
+                bytes: &bytes,
+                atoms,
+                pairs,
+            };
+            let tree = Tree { a: &a, lists };
+            tree.outline(to, node, depth)
         }
-        Answer::Refused(code, _) => {
-            lines::refusal(to, code, loaded.at)?;
-            lines::counts(to, a)
+        Err(Fault { refusal, at }) => {
+            lines::refusal(to, refusal.code, at)?;
+            lines::counts(to, &a)
         }
     }
 }

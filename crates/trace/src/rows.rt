@@ -54,7 +54,8 @@ fn advance(
         show(m, machine::bad(), page);
         return None;
     };
-    let told = m.act(bytes, starts, ends, firsts, rests, asked.request);
+    let answer = m.act(bytes, starts, ends, firsts, rests, asked.request);
+    let told = Told::from(answer);
     show(m, told, page);
     Some(asked.size)
 }

@@ -17,7 +17,8 @@ returns-in_default c =
 pub show-requires-2-clause-bounds : goal.show-requires-2-clause-bounds
 show-requires-2-clause-bounds c =
     let s = c.args in
-    let done = c.act-told.ensures ∙ ap (act_of s.m.now _) c.in-Some.ensures.meaning in
+    let did = rw (← c.from-told.ensures) at c.act-answer.ensures in
+    let done = did ∙ ap (act_of s.m.now _) c.in-Some.ensures.meaning in
     closable s.m.now _ c.requires.bounds.0
     (subst (Kept s.m.now) (sym done) (record_kept s.m.now _ c.requires.ready s.rest.now (λ i. omega (arith, c.type_inv.rest i))))
 
@@ -27,5 +28,6 @@ returns c =
     let h = c.requires.bounds in
     let shown = c.show-2.ensures in
     let asked = c.in-Some.ensures in
-    advanced s.m.now _ s.rest.now s.page.now h.1 c.requires.ready (λ i. omega (arith, c.type_inv.rest i)) h.0 (did_of c.act-told.new.self c.act-told.result) _ _ c.show-2.new.page _
-    (step_made s.m.now _ s.rest.now _ c.in-Some.asked.request _ c.act-told.ensures asked.meaning asked.size) shown.machine shown.text shown.capacity shown.bound
+    let did = rw (← c.from-told.ensures) at c.act-answer.ensures in
+    advanced s.m.now _ s.rest.now s.page.now h.1 c.requires.ready (λ i. omega (arith, c.type_inv.rest i)) h.0 (did_of c.act-answer.new.self c.from-told.result) _ _ c.show-2.new.page _
+    (step_made s.m.now _ s.rest.now _ c.in-Some.asked.request _ did asked.meaning asked.size) shown.machine shown.text shown.capacity shown.bound
