@@ -9,7 +9,7 @@ ghost use Rattle.rules.specs.Paper.{said_in};
 ghost use Rattle.clvm_allocator.specs.Answers.{bit, number_c, done_c, given, crossed, taken_c};
 
 use super::answers::{CAnswer, CNumber};
-use rules::{Allocator, Checkpoint, Counts, Refusal};
+use rules::{Allocator, AtomSlots, Checkpoint, Counts, PairSlots, Refusal, Slices};
 
 pub fn clvm_new_limited(a: &mut Allocator, limit: usize) -> CAnswer
     ensures { given result a.new no_lists ≡ crossed done_c (new_limited limit) }
@@ -93,5 +93,10 @@ pub fn clvm_well_formed(
     ensures { result
         ≡ bit (well_formed a.now (lists_in bytes.now starts.now ends.now firsts.now rests.now)) }
 {
-    state::well_formed(a, bytes, starts, ends, firsts, rests) as u32
+    let lists = Slices {
+        bytes,
+        atoms: AtomSlots { starts, ends },
+        pairs: PairSlots { firsts, rests },
+    };
+    state::well_formed(a, lists) as u32
 }

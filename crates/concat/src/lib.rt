@@ -65,7 +65,7 @@ fn concat_all(
     starts[at] = from as u32;
     ends[at] = (from + size) as u32;
     *a = record::used_atom(size, *a);
-    Ok(node::new(ObjectType::Bytes, at as u32))
+    Ok(node::of(ObjectType::Bytes, at as u32))
 }
 
 // The atoms' bytes one behind the other, as a new atom of that size: 1 unsound, 3 too many atoms, 2 out of memory, then the nodes. Nothing is

@@ -73,7 +73,7 @@ pub fn store_atom(
     starts[at] = from as u32;
     ends[at] = (from + v.len()) as u32;
     *a = record::used_atom(v.len(), *a);
-    Ok(node::new(ObjectType::Bytes, at as u32))
+    Ok(node::of(ObjectType::Bytes, at as u32))
 }
 
 // A fitting value becomes small, counted as so many ghost bytes; another is stored.
@@ -92,7 +92,7 @@ pub fn small_or(
     match node::fits_in_small_atom(v) {
         Some(n) => {
             *a = record::ghost_atom(counted, *a);
-            Ok(node::new(ObjectType::SmallAtom, n))
+            Ok(node::of(ObjectType::SmallAtom, n))
         }
         None => store_atom(a, bytes, starts, ends, v),
     }
@@ -129,7 +129,7 @@ pub fn new_small_number(a: &mut Allocator, v: u32) -> Result<u32, Refusal>
     need(v <= node::LARGEST_SMALL, Code::TooLarge, NIL)?;
     limit_tests(a, len)?;
     *a = record::ghost_atom(len, *a);
-    Ok(node::new(ObjectType::SmallAtom, v))
+    Ok(node::of(ObjectType::SmallAtom, v))
 }
 
 // A new atom of an integer: its shortest bytes in two's complement. new_u64 and new_i64 are this, of the two types.

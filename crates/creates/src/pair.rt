@@ -36,5 +36,5 @@ pub fn new_pair(
     firsts[at] = first;
     rests[at] = rest;
     *a = record::used_pair(*a);
-    Ok(node::new(ObjectType::Pair, at as u32))
+    Ok(node::of(ObjectType::Pair, at as u32))
 }

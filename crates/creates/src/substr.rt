@@ -58,7 +58,7 @@ fn share_range(
     starts[at] = start as u32;
     ends[at] = end as u32;
     *a = record::used_atom(0, *a);
-    Ok(node::new(ObjectType::Bytes, at as u32))
+    Ok(node::of(ObjectType::Bytes, at as u32))
 }
 
 // A part of a small atom: small again where it fits, with the heap unchanged, else stored, with no heap test.

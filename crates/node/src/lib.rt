@@ -1,12 +1,12 @@
 // The bits of a node, small atoms, and the big-endian bytes of a number.
 #![tactic(auto, unfolding(rules::specs::Reads::object_type_of, rules::specs::Node::view, rules::specs::Node::view_of))]
 
-ghost use Rattle.std.specs.Prelude.{IfSome, ◌≡◌, ◌∷◌, ◌++◌, ◌≤◌, ◌<◌, length, drop};
+ghost use Rattle.std.specs.Prelude.{IfSome, IfErr, ◌≡◌, ◌∷◌, ◌++◌, ◌≤◌, ◌<◌, length, drop};
 ghost use Rattle.rules.specs.Node.{view as viewed, node_of};
 ghost use Rattle.rules.proofs.Args.{Low};
 ghost use Rattle.rules.specs.Small.{big as big_of, be, fits, len_for};
 ghost use Rattle.rules.specs.Reads.{kind_number, object_type, node_index, is_atom, is_pair};
-ghost use Rattle.rules.specs.Paper.{said_in, said_by, view_paper, kind_paper, option_paper};
+ghost use Rattle.rules.specs.Paper.{said_in, said_by, view_in, kind_paper, option_paper};
 
 use rules::{Code, NIL, ObjectType, Refusal, View};
 
@@ -14,13 +14,6 @@ use rules::{Code, NIL, ObjectType, Refusal, View};
 const INDICES: u32 = 67108864;
 // The largest value of a small atom.
 pub const LARGEST_SMALL: u32 = 67108863;
-
-// A number of 32 bits as an index.
-pub fn wide(x: u32) -> usize
-    ensures { result ≡ x }
-{
-    x as usize
-}
 
 // The number that a first digit and at most seven bytes write, big-endian.
 pub fn read_be(first: u64, more: &[u8]) -> u64
@@ -42,40 +35,49 @@ fn big(v: &[u8]) -> u32
     read_be(0, v) as u32
 }
 
-// What a number is as a node: the kind in the top 6 bits, the index or the value in the low 26.
-pub fn view(n: u32) -> View
-    ensures value { view_paper result ≡ viewed n }
-    ensures low { Low (view_paper result) }
+// What a number is as a node: the kind in the top 6 bits, the index or the value in the low 26. Above 2 there is no kind: such a node is valid
+// in no state.
+pub fn view(n: u32) -> Result<View, Refusal>
+    ensures value { view_in result ≡ viewed n }
+    ensures low { Low (view_in result) }
+    ensures refused { IfErr result (λ r. (r.code ≡ Code.NotValid) × (r.node ≡ 134217728)) }
 {
     let index = n % INDICES;
     match n / INDICES {
-        0 => View::Pair(index as usize),
-        1 => View::Bytes(index as usize),
-        2 => View::Small(index),
-        _ => View::Bad,
-    }
-}
-
-// The node of a kind with an index or a value, which the caller keeps within the bits they have.
-pub fn new(kind: ObjectType, index: u32) -> u32
-    requires { index < 67108864 }
-    ensures { result ≡ node_of (kind_number (kind_paper kind)) index }
-{
-    kind as u32 * INDICES + index
-}
-
-// The kind of a node. Above 2 there is none: such a node is valid in no state.
-pub fn object_type(n: u32) -> Result<ObjectType, Refusal>
-    ensures { said_by kind_paper result ≡ object_type n }
-{
-    match view(n) {
-        View::Pair(_) => Ok(ObjectType::Pair),
-        View::Bytes(_) => Ok(ObjectType::Bytes),
-        View::Small(_) => Ok(ObjectType::SmallAtom),
-        View::Bad => Err(Refusal {
+        0 => Ok(View::Pair(index as usize)),
+        1 => Ok(View::Bytes(index as usize)),
+        2 => Ok(View::Small(index)),
+        _ => Err(Refusal {
             code: Code::NotValid,
             node: NIL,
         }),
+    }
+}
+
+// The node of a kind's number with an index or a value, which the caller keeps within the bits they have.
+pub fn new(kind: u32, index: u32) -> u32
+    requires { (kind < 64) × (index < 67108864) }
+    ensures { result ≡ node_of kind index }
+{
+    kind * INDICES + index
+}
+
+// The node of a kind.
+pub fn of(kind: ObjectType, index: u32) -> u32
+    requires { index < 67108864 }
+    ensures { result ≡ node_of (kind_number (kind_paper kind)) index }
+{
+    new(kind as u32, index)
+}
+
+// The kind of a node.
+pub fn object_type(n: u32) -> Result<ObjectType, Refusal>
+    ensures { said_by kind_paper result ≡ object_type n }
+{
+    match view(n)? {
+        View::Pair(_) => Ok(ObjectType::Pair),
+        View::Bytes(_) => Ok(ObjectType::Bytes),
+        View::Small(_) => Ok(ObjectType::SmallAtom),
     }
 }
 

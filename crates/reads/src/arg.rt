@@ -34,17 +34,13 @@ pub fn arg(a: &Allocator, atoms: AtomSlots, n: u32) -> Result<Arg, Refusal>
     ensures value { said_by arg_paper result ≡ arg_rule a.now (atoms_of atoms.entry) n }
     ensures facts { IfOk result (λ x. ArgIn a.now (atoms_of atoms.entry) (arg_paper x)) }
 {
-    match node::view(n) {
+    match node::view(n)? {
         View::Pair(i) => {
             need(i < a.used.pairs, Code::NotValid, NIL)?;
             Ok(Arg::Pair(i))
         }
         View::Bytes(i) => slot(a, atoms, i),
         View::Small(v) => Ok(Arg::Small(v)),
-        View::Bad => Err(Refusal {
-            code: Code::NotValid,
-            node: NIL,
-        }),
     }
 }
 

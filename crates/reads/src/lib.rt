@@ -71,7 +71,7 @@ fn sexp_of(a: &Allocator, pairs: PairSlots, n: u32) -> Result<SExp, Refusal>
     requires { PairsWithin a.now pairs.firsts.now pairs.rests.now }
     ensures { said_by sexp_paper result ≡ sexp_of a.now (pairs_of pairs.entry) (view n) }
 {
-    match node::view(n) {
+    match node::view(n)? {
         View::Pair(i) => {
             need(i < a.used.pairs, Code::NotValid, NIL)?;
             let (first, rest) = children(a, pairs, i)?;
@@ -82,10 +82,6 @@ fn sexp_of(a: &Allocator, pairs: PairSlots, n: u32) -> Result<SExp, Refusal>
             Ok(SExp::Atom)
         }
         View::Small(_) => Ok(SExp::Atom),
-        View::Bad => Err(Refusal {
-            code: Code::NotValid,
-            node: NIL,
-        }),
     }
 }
 
@@ -179,7 +175,7 @@ fn status_of(a: &Allocator, atoms: AtomSlots, k: &Counts, n: u32) -> Result<Node
     requires { AtomsWithin a.now atoms.starts.now atoms.ends.now }
     ensures { said_by status_paper result ≡ node_status_of k.now a.now (atoms_of atoms.entry) (view n) }
 {
-    match node::view(n) {
+    match node::view(n)? {
         View::Pair(i) => {
             need(i < a.used.pairs, Code::NotValid, NIL)?;
             if i < k.pairs {
@@ -189,10 +185,6 @@ fn status_of(a: &Allocator, atoms: AtomSlots, k: &Counts, n: u32) -> Result<Node
         }
         View::Bytes(i) => bytes_status(a, atoms, k, i),
         View::Small(_) => Ok(NodeStatus::Before),
-        View::Bad => Err(Refusal {
-            code: Code::NotValid,
-            node: NIL,
-        }),
     }
 }
 

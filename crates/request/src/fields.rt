@@ -21,7 +21,16 @@ pub fn u64_at(s: &[u8], i: usize) -> u64
     requires { i + 8 ≤ length s.now }
     ensures { result ≡ u64_at s.now i }
 {
-    u64::from(u32_at(s, i)) + (u64::from(u32_at(s, i + 4)) << 32)
+    u64::from_le_bytes([
+        s[i],
+        s[i + 1],
+        s[i + 2],
+        s[i + 3],
+        s[i + 4],
+        s[i + 5],
+        s[i + 6],
+        s[i + 7],
+    ])
 }
 
 // Puts the u32 numbers of s at the front of out, and answers how many there are.

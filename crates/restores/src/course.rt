@@ -46,8 +46,8 @@ pub fn usable(k: &Counts, a: &Allocator, atoms: AtomSlots, pairs: PairSlots) -> 
     ensures facts { OnTrue result (Below k.now a.now.used) }
 {
     within(k, &a.used)
-        && sound::atom_slots_sound(k, atoms.starts, atoms.ends)
-        && sound::pair_slots_sound(k, pairs.firsts, pairs.rests)
+        && sound::atom_slots_sound(k, atoms)
+        && sound::pair_slots_sound(k, pairs)
 }
 
 // A node whose bytes are new: an atom of few bytes can be made again; the heap is tested before anything is cut.

@@ -94,7 +94,7 @@ fn share(
     starts[at] = start as u32;
     ends[at] = end as u32;
     *a = record::used_atom(0, record::less_ghosts(0, record::cut(*k, *a)));
-    MaybeRestore::Replace(node::new(ObjectType::Bytes, at as u32))
+    MaybeRestore::Replace(node::of(ObjectType::Bytes, at as u32))
 }
 
 // Saves the bytes, restores, and makes an atom of them again: new_atom's tests were passed before, and are not made twice.

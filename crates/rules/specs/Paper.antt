@@ -62,7 +62,11 @@ abbrev pub view_paper : View → Node
 view_paper (View.Pair i) = pair_at i
 view_paper (View.Bytes i) = bytes_at i
 view_paper (View.Small v) = small v
-view_paper View.Bad = bad
+
+-- or of a number that is no node
+abbrev pub view_in : Result View Refusal → Node
+view_in (Ok v) = view_paper v
+view_in (Err r) = bad
 
 -- object_type
 abbrev pub kind_paper : ObjectType → Kind

@@ -111,7 +111,6 @@ pub enum View {
     Pair(usize),
     Bytes(usize),
     Small(u32),
-    Bad,
 }
 
 // A node argument after its tests: a pair's index; a Bytes node's index, start and end; a value.

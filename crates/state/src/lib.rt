@@ -9,13 +9,13 @@ ghost use Rattle.std.specs.Prelude.{◌≡◌};
 ghost use Rattle.rules.specs.Node.{nil};
 ghost use Rattle.rules.specs.Said.{says, need};
 ghost use Rattle.rules.specs.State.{limits_sound, well_formed};
-ghost use Rattle.rules.specs.Lent.{lists_in};
+ghost use Rattle.rules.specs.Lent.{lists_of};
 ghost use Rattle.rules.specs.Record.{atom_count, allocated_atom_count, pair_count, allocated_pair_count};
 ghost use Rattle.rules.specs.Record.{heap_size, allocated_heap_size, checkpoint as checkpoint_of};
 ghost use Rattle.rules.specs.Record.{transparent_checkpoint, new_limited};
 ghost use Rattle.rules.specs.Paper.{said_in, changed};
 
-use rules::{Allocator, Checkpoint, Code, Counts, NIL, Refusal, need};
+use rules::{Allocator, Checkpoint, Code, Counts, NIL, Refusal, Slices, need};
 
 // A fresh record: nil and one are counted as if they had been allocated. A refused limit gives the record for limit 0.
 #[tactic(auto, unfolding(rules::specs::Said::need, rules::specs::Record::new_limited))]
@@ -90,27 +90,23 @@ pub fn transparent_checkpoint(a: &Allocator) -> Result<Counts, Refusal>
 
 // Whether the record and all used slots are sound.
 #[tactic(auto, unfolding(rules::specs::State::well_formed))]
-pub fn well_formed(
-    a: &Allocator,
-    bytes: &[u8],
-    starts: &[u32],
-    ends: &[u32],
-    firsts: &[u32],
-    rests: &[u32],
-) -> bool
-    ensures { result ≡ well_formed a.now (lists_in bytes.now starts.now ends.now firsts.now rests.now) }
+pub fn well_formed(a: &Allocator, lists: Slices) -> bool
+    ensures { result ≡ well_formed a.now (lists_of lists.entry) }
 {
+    let Slices {
+        bytes,
+        atoms,
+        pairs,
+    } = lists;
     if sound::lists_sound(
         a,
         bytes.len(),
-        starts.len(),
-        ends.len(),
-        firsts.len(),
-        rests.len(),
+        atoms.starts.len(),
+        atoms.ends.len(),
+        pairs.firsts.len(),
+        pairs.rests.len(),
     ) {
-        if sound::atom_slots_sound(&a.used, starts, ends) {
-            return sound::pair_slots_sound(&a.used, firsts, rests);
-        }
+        return sound::atom_slots_sound(&a.used, atoms) && sound::pair_slots_sound(&a.used, pairs);
     }
     false
 }

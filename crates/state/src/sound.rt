@@ -3,23 +3,21 @@ ghost use Rattle.std.specs.Prelude.{◌≡◌, ◌&&◌, ◌+◌, ◌≤◌, min
 ghost use Rattle.rules.specs.Node.{valid_node};
 ghost use Rattle.rules.specs.State.{limits_sound, atoms_sound_at, pairs_sound_at, slots_sound_at, bytes_sound_at, lists_sound_at, range_sound, children_sound};
 ghost use Rattle.rules.specs.State.{atom_slots_sound, pair_slots_sound};
-ghost use Rattle.rules.specs.Lent.{atom_slots_in, pair_slots_in};
+ghost use Rattle.rules.specs.Lent.{atoms_of, pairs_of};
 ghost use Rattle.rules.proofs.Limits.{Limits};
 ghost use Rattle.rules.proofs.Sound.{AtomsLent, PairsLent, SlotsLent, StoreLent, ListsLent};
 ghost use Rattle.std.specs.Bool.{OnTrue};
 
-use rules::{Allocator, Counts, View};
+use rules::{Allocator, AtomSlots, Counts, PairSlots, View};
 
 // The most atoms, and the most pairs, that there may be.
 pub const MOST: usize = 62500000;
-
-const CAP: usize = 18446744073709551615;
 
 // x + y, or the largest usize where the sum is past it: a test against a smaller number then judges the exact sum.
 pub fn total(x: usize, y: usize) -> usize
     ensures { result ≡ min (x + y) 18446744073709551615 }
 {
-    if y <= CAP - x { x + y } else { CAP }
+    x.saturating_add(y)
 }
 
 // Whether the record's own numbers are within the limits.
@@ -103,10 +101,10 @@ pub fn valid(n: u32, atoms: usize, pairs: usize) -> bool
     ensures { result ≡ valid_node atoms pairs n }
 {
     match node::view(n) {
-        View::Pair(i) => i < pairs,
-        View::Bytes(i) => i < atoms,
-        View::Small(_) => true,
-        View::Bad => false,
+        Ok(View::Pair(i)) => i < pairs,
+        Ok(View::Bytes(i)) => i < atoms,
+        Ok(View::Small(_)) => true,
+        Err(_) => false,
     }
 }
 
@@ -125,12 +123,12 @@ pub fn children_sound(first: u32, rest: u32, atoms: usize, i: usize) -> bool
 }
 
 // Whether the first atom slots lie within the first bytes, both as used says.
-pub fn atom_slots_sound(used: &Counts, starts: &[u32], ends: &[u32]) -> bool
-    requires { (used.now.atoms ≤ length starts.now) × (used.now.atoms ≤ length ends.now) }
-    ensures { result ≡ atom_slots_sound used.now (atom_slots_in starts.now ends.now) }
+pub fn atom_slots_sound(used: &Counts, atoms: AtomSlots) -> bool
+    requires { (used.now.atoms ≤ length atoms.starts.now) × (used.now.atoms ≤ length atoms.ends.now) }
+    ensures { result ≡ atom_slots_sound used.now (atoms_of atoms.entry) }
 {
     for i in 0..used.atoms {
-        if !range_sound(starts[i], ends[i], used.bytes) {
+        if !range_sound(atoms.starts[i], atoms.ends[i], used.bytes) {
             return false;
         }
     }
@@ -138,12 +136,12 @@ pub fn atom_slots_sound(used: &Counts, starts: &[u32], ends: &[u32]) -> bool
 }
 
 // Whether the first pair slots have their children among the atoms that used says and the pairs before them.
-pub fn pair_slots_sound(used: &Counts, firsts: &[u32], rests: &[u32]) -> bool
-    requires { (used.now.pairs ≤ length firsts.now) × (used.now.pairs ≤ length rests.now) }
-    ensures { result ≡ pair_slots_sound used.now (pair_slots_in firsts.now rests.now) }
+pub fn pair_slots_sound(used: &Counts, pairs: PairSlots) -> bool
+    requires { (used.now.pairs ≤ length pairs.firsts.now) × (used.now.pairs ≤ length pairs.rests.now) }
+    ensures { result ≡ pair_slots_sound used.now (pairs_of pairs.entry) }
 {
     for i in 0..used.pairs {
-        if !children_sound(firsts[i], rests[i], used.atoms, i) {
+        if !children_sound(pairs.firsts[i], pairs.rests[i], used.atoms, i) {
             return false;
         }
     }

@@ -4,4 +4,4 @@ use Rattle.rules.specs.State.{all, pair_slots, pair_slot_sound}
 use Rattle.state.proofs.sound.pair_slots_sound.Given as goal
 
 abbrev pub invariant-loop-i : goal.invariant-loop-i
-invariant-loop-i l = all (pair_slot_sound l.used.atoms (pair_slots l.firsts l.rests)) l.i ≡ true
+invariant-loop-i l = all (pair_slot_sound l.used.atoms (pair_slots l.pairs.firsts.now l.pairs.rests.now)) l.i ≡ true
