@@ -3,81 +3,78 @@
 #![tactic(auto)]
 
 mod calls;
+mod lent;
 mod seen;
 
-use compare::lists::Slots;
-use compare::{lists, show};
-use script::desk::{Desk, Window};
-use script::{asked, desk, lines, parse, table};
-use std::io;
+use compare::course::Course;
+use compare::fault::Fault;
+use script::lines::{Found, Lines};
+use std::alloc::Global;
+use std::fs::File;
 use std::io::Write;
+use std::ops::Range;
 use std::rt::Files;
+use std::{fs, io};
 
-fn no_line() -> Window {
-    [0; 20480]
+const FILES: [&str; 4] = ["document.txt", "runs.txt", "files.txt", "rust.txt"];
+
+/// The most lines that are read.
+const TURNS: u64 = 1000000000;
+
+/// Makes the call of a line, where it is one, and does else what the line says.
+fn turn(alloc: Global, course: &mut Course, text: &[u8]) -> Result<(), Fault> {
+    let Some(asked) = course.turn(text)? else {
+        return Ok(());
+    };
+    let mut record = lent::record(&course.record());
+    let came = calls::made(alloc, &asked.call, &mut record, &mut course.lists)?;
+    course.answer(text, &asked, came, lent::record_of(&record))
 }
 
-fn no_numbers() -> Desk {
-    [0; 1024]
-}
-
-fn no_slots() -> Slots {
-    [2779096485; 8320]
-}
-
-// The next line. The steps stand in a row, and each looks for itself whether the line is one of its own: a choice between them here would
-// cost the prover more, since it follows all lists through each arm.
-fn turn<R: Files, W: Write>(
+/// Goes through a file: whether its end was come to.
+fn follow<R: Files<File = File>, W: Write>(
     rt: &R,
+    alloc: Global,
     out: &mut W,
-    source: &mut Option<R::File>,
-    window: &mut Window,
-    desk: &mut Desk,
-    bytes: &mut [u8],
-    starts: &mut Slots,
-    ends: &mut Slots,
-    firsts: &mut Slots,
-    rests: &mut Slots,
-    file: &mut [u8],
-) -> io::Result<()> {
-    lines::next(rt, source, window, desk)?;
-    asked::understand(window, desk);
-    lists::tend(window, desk, bytes, starts, ends, firsts, rests, file);
-    show::faults(out, source, window, desk)?;
-    let mut record = seen::record(desk);
-    let came = calls::made(desk, &mut record, bytes, starts, ends, firsts, rests, file);
-    seen::keep(desk, came, record);
-    show::settle(out, source, window, desk)
+    course: &mut Course,
+    turns: &mut Range<u64>,
+    name: &'static str,
+) -> io::Result<bool> {
+    let Ok(file) = fs::open(rt, name) else {
+        writeln!(out, "{name}: cannot be opened")?;
+        return Ok(false);
+    };
+    let mut lines = Lines::new(alloc, file)?;
+    let mut text = Vec::new(alloc);
+    course.open(name);
+    for _ in turns.by_ref() {
+        course.count_line();
+        let found = lines.next(&mut text)?;
+        let told = match found {
+            Found::Line => turn(alloc, course, &text),
+            Found::Unended => Err(Fault::NotUnderstood),
+            Found::End => course.compare(),
+        };
+        if let Err(fault) = told {
+            course.show(out, &text, &fault)?;
+            return Ok(false);
+        }
+        if let Found::End = found {
+            course.close(out)?;
+            return Ok(true);
+        }
+    }
+    Ok(false)
 }
 
 fn main(rt: HostRuntime) -> io::Result<()> {
     let mut out = io::writer(&rt);
-    let mut source = None;
-    let mut window = no_line();
-    let mut desk = no_numbers();
-    let mut bytes = vec![in rt.alloc(); parse::FILLER; lists::ALL_BYTES]?;
-    let mut starts = no_slots();
-    let mut ends = no_slots();
-    let mut firsts = no_slots();
-    let mut rests = no_slots();
-    let mut file = vec![in rt.alloc(); parse::FILLER; lists::ALL_FILE]?;
-    let mut turns: u64 = 1000000000;
-    desk[desk::FILE] = table::DOCUMENT;
-    while 0 < turns {
-        turn(
-            &rt,
-            &mut out,
-            &mut source,
-            &mut window,
-            &mut desk,
-            &mut bytes,
-            &mut starts,
-            &mut ends,
-            &mut firsts,
-            &mut rests,
-            &mut file,
-        )?;
-        turns = lines::left(turns, &desk);
+    let mut course = Course::new(rt.alloc())?;
+    let mut turns = 0..TURNS;
+    for name in FILES {
+        if turns.is_empty() || !follow(&rt, rt.alloc(), &mut out, &mut course, &mut turns, name)? {
+            return Ok(());
+        }
     }
-    Ok(())
+    course.total(&mut out)
 }

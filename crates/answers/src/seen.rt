@@ -1,154 +1,105 @@
-// What a call answered: its code, its node and up to six values.
+// What a call answered, as a line shows it.
 use clvm_allocator::answers::{
     CAnswer, CChildren, CLoaded, CNumber, COption, CPart, CRestored, CStatus, CVisited,
 };
-use script::desk;
-use script::desk::Desk;
-use words::{CheckpointWords, RecordWords};
+use script::line::Answer;
 
-// The small atom 0.
+/// The small atom 0.
 const NIL: u32 = 134217728;
 
-#[derive(Clone, Copy)]
-pub struct Seen {
-    pub code: u32,
-    pub node: u32,
-    pub a: u64,
-    pub b: u64,
-    pub c: u64,
-    pub d: u64,
-    pub e: u64,
-    pub f: u64,
-}
-
-fn shown(code: u32, node: u32, a: u64, b: u64, c: u64, d: u64) -> Seen {
-    Seen {
-        code: code,
-        node: node,
-        a: a,
-        b: b,
-        c: c,
-        d: d,
-        e: 0,
-        f: 0,
+/// Code, node and values.
+pub fn answer<const N: usize>(code: u32, node: u32, shown: [u64; N]) -> Answer {
+    let mut values = [0; 6];
+    for (value, x) in values.iter_mut().zip(&shown) {
+        *value = *x;
+    }
+    Answer {
+        code: u64::from(code),
+        node: u64::from(node),
+        values,
     }
 }
 
-pub fn of_number(r: CNumber) -> Seen {
-    shown(r.code, r.node, r.value as u64, 0, 0, 0)
+/// A number that comes with no code.
+pub fn plain(n: u64) -> Answer {
+    answer(0, NIL, [n])
 }
 
-// A number that comes with no code.
-pub fn of_plain(n: u64) -> Seen {
-    shown(0, NIL, n, 0, 0, 0)
+/// What the C library answers with.
+pub trait Seen {
+    fn seen(self) -> Answer;
 }
 
-pub fn of_option(r: COption) -> Seen {
-    shown(r.code, r.node, r.some as u64, r.value as u64, 0, 0)
-}
-
-pub fn of_visited(r: CVisited) -> Seen {
-    shown(
-        r.code,
-        r.node,
-        r.kind as u64,
-        r.first as u64,
-        r.second as u64,
-        0,
-    )
-}
-
-pub fn of_children(r: CChildren) -> Seen {
-    shown(
-        r.code,
-        r.node,
-        r.is_pair as u64,
-        r.first as u64,
-        r.rest as u64,
-        0,
-    )
-}
-
-pub fn of_part(r: CPart, scratch: u64) -> Seen {
-    shown(
-        r.code,
-        r.node,
-        r.place as u64,
-        r.offset as u64,
-        r.length as u64,
-        scratch,
-    )
-}
-
-pub fn of_status(r: CStatus) -> Seen {
-    shown(
-        r.code,
-        r.node,
-        r.status as u64,
-        r.start as u64,
-        r.end as u64,
-        0,
-    )
-}
-
-// A checkpoint's numbers; a transparent one has three.
-pub fn of_checkpoint(r: CAnswer, k: CheckpointWords) -> Seen {
-    Seen {
-        code: r.code,
-        node: r.node,
-        a: k[0] as u64,
-        b: k[1] as u64,
-        c: k[2] as u64,
-        d: k[3] as u64,
-        e: k[4] as u64,
-        f: k[5] as u64,
+impl Seen for CAnswer {
+    fn seen(self) -> Answer {
+        answer(self.code, self.node, [])
     }
 }
 
-pub fn of_answer(r: CAnswer) -> Seen {
-    shown(r.code, r.node, 0, 0, 0, 0)
+impl Seen for CNumber {
+    fn seen(self) -> Answer {
+        answer(self.code, self.node, [self.value as u64])
+    }
 }
 
-pub fn of_restored(r: CRestored) -> Seen {
-    shown(r.code, r.node, r.outcome as u64, 0, 0, 0)
+impl Seen for COption {
+    fn seen(self) -> Answer {
+        answer(
+            self.code,
+            self.node,
+            [u64::from(self.some), u64::from(self.value)],
+        )
+    }
 }
 
-pub fn of_loaded(r: CLoaded) -> Seen {
-    shown(r.code, r.node, r.at as u64, 0, 0, 0)
+impl Seen for CVisited {
+    fn seen(self) -> Answer {
+        let shown = [u64::from(self.kind), self.first as u64, self.second as u64];
+        answer(self.code, self.node, shown)
+    }
 }
 
-// Lays an answer on the desk, and the record that the call left.
-pub fn keep(desk: &mut Desk, s: Seen, record: RecordWords) {
-    desk::put(desk, desk::CAME, 0, s.code as u64);
-    desk::put(desk, desk::CAME, 1, s.node as u64);
-    desk::put(desk, desk::CAME, 2, s.a);
-    desk::put(desk, desk::CAME, 3, s.b);
-    desk::put(desk, desk::CAME, 4, s.c);
-    desk::put(desk, desk::CAME, 5, s.d);
-    desk::put(desk, desk::CAME, 6, s.e);
-    desk::put(desk, desk::CAME, 7, s.f);
-    keep_record(desk, record);
+impl Seen for CChildren {
+    fn seen(self) -> Answer {
+        let shown = [
+            u64::from(self.is_pair),
+            u64::from(self.first),
+            u64::from(self.rest),
+        ];
+        answer(self.code, self.node, shown)
+    }
 }
 
-fn keep_record(desk: &mut Desk, record: RecordWords) {
-    desk::put(desk, desk::CAME_RECORD, 0, record[0] as u64);
-    desk::put(desk, desk::CAME_RECORD, 1, record[1] as u64);
-    desk::put(desk, desk::CAME_RECORD, 2, record[2] as u64);
-    desk::put(desk, desk::CAME_RECORD, 3, record[3] as u64);
-    desk::put(desk, desk::CAME_RECORD, 4, record[4] as u64);
-    desk::put(desk, desk::CAME_RECORD, 5, record[5] as u64);
-    desk::put(desk, desk::CAME_RECORD, 6, record[6] as u64);
+impl Seen for CStatus {
+    fn seen(self) -> Answer {
+        let shown = [u64::from(self.status), self.start as u64, self.end as u64];
+        answer(self.code, self.node, shown)
+    }
 }
 
-// The record's words.
-pub fn record(desk: &Desk) -> RecordWords {
-    [
-        desk::at(desk, desk::RECORD, 0) as usize,
-        desk::at(desk, desk::RECORD, 1) as usize,
-        desk::at(desk, desk::RECORD, 2) as usize,
-        desk::at(desk, desk::RECORD, 3) as usize,
-        desk::at(desk, desk::RECORD, 4) as usize,
-        desk::at(desk, desk::RECORD, 5) as usize,
-        desk::at(desk, desk::RECORD, 6) as usize,
-    ]
+impl Seen for CRestored {
+    fn seen(self) -> Answer {
+        answer(self.code, self.node, [u64::from(self.outcome)])
+    }
+}
+
+impl Seen for CLoaded {
+    fn seen(self) -> Answer {
+        answer(self.code, self.node, [self.at as u64])
+    }
+}
+
+/// The part of an atom, with the scratch that it may lie in: at most eight bytes, as a big-endian number.
+pub fn part(part: CPart, scratch: &[u8]) -> Answer {
+    let mut number: u64 = 0;
+    for b in scratch {
+        number = (number << 8) | u64::from(*b);
+    }
+    let shown = [
+        u64::from(part.place),
+        part.offset as u64,
+        part.length as u64,
+        number,
+    ];
+    answer(part.code, part.node, shown)
 }

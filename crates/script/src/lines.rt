@@ -1,132 +1,59 @@
-// The files, line by line: each is fetched by where it begins, so that the lines of a difference can be fetched again.
-ghost use Rattle.std.specs.Prelude.{◌<◌};
+// The lines of a file.
+use std::alloc::Global;
+use std::io;
+use std::io::{BufRead, BufReader, Read, Take};
 
-use super::desk::{Desk, Window};
-use super::{desk, parse, table};
-use std::io::{Read, Seek, SeekFrom};
-use std::rt::Files;
-use std::{fs, io};
-
+/// The most characters of a line.
 const LONGEST: usize = 20000;
 
-// A file longer than any that is kept here is read no further.
-const FAR: u64 = 4294967296;
+/// How many bytes are looked at for a line's end, so that one that is too long is seen.
+const WINDOW: u64 = 20480;
 
-fn open<R: Files>(rt: &R, file: u64) -> io::Result<R::File> {
-    match file {
-        table::DOCUMENT => fs::open(rt, "document.txt"),
-        table::RUNS => fs::open(rt, "runs.txt"),
-        table::PROGRAMS => fs::open(rt, "files.txt"),
-        _ => fs::open(rt, "rust.txt"),
-    }
-}
+/// A file longer than any that is kept here is read no further.
+const FAR: u64 = 1 << 32;
 
-// Opens the file that is to be read, where none is open. None is then where there is no such file.
-fn opened<R: Files>(rt: &R, source: &mut Option<R::File>, desk: &mut Desk) {
-    if desk[desk::OPEN] == 1 {
-        return;
-    }
-    match open(rt, desk[desk::FILE]) {
-        Ok(new) => {
-            *source = Some(new);
-            desk::copy(desk, desk::NOUGHTS, desk::OPEN, 12);
-            desk[desk::OPEN] = 1;
-        }
-        Err(_) => *source = None,
-    }
-}
-
-// What was fetched: how many bytes, and how many of them stand before the first newline.
+/// What was read.
 #[derive(Clone, Copy)]
-pub struct Fetched {
-    pub have: usize,
-    pub to: usize,
+pub enum Found {
+    Line,
+    /// A line that is too long, or ends with the file and not with a newline.
+    Unended,
+    End,
 }
 
-// Where the first line ends; where the bytes end if it does not.
-fn line_end(window: &Window, have: usize) -> usize {
-    let s: &[u8] = window;
-    if have <= s.len() {
-        return parse::find(s, 0, have, b'\n');
-    }
-    0
-}
-
-// How many bytes from a place of the file on were laid into the window. There are none where no file is open.
-fn read_at<F: Read + Seek>(
-    source: &mut Option<F>,
-    window: &mut Window,
+#[derive(Drop)]
+pub struct Lines<F: Read + Drop> {
+    reader: Take<BufReader<F>>,
     at: u64,
-) -> io::Result<usize> {
-    match source {
-        Some(file) => {
-            file.seek(SeekFrom::Start(at))?;
-            file.read(window)
+}
+
+impl<F: Read + Drop> Lines<F> {
+    pub fn new(alloc: Global, file: F) -> io::Result<Lines<F>> {
+        Ok(Lines {
+            reader: BufReader::new(alloc, file)?.take(WINDOW),
+            at: 0,
+        })
+    }
+
+    /// Lays the next line into a buffer, without its newline.
+    pub fn next(&mut self, line: &mut Vec<u8>) -> io::Result<Found> {
+        line.clear();
+        if FAR <= self.at {
+            return Ok(Found::End);
         }
-        None => Ok(0),
+        self.reader.set_limit(WINDOW);
+        let n = self.reader.read_until(b'\n', line)?;
+        self.at = self.at.saturating_add(n as u64);
+        if n == 0 {
+            return Ok(Found::End);
+        }
+        if line.last() != Some(&b'\n') {
+            return Ok(Found::Unended);
+        }
+        line.pop();
+        if LONGEST < line.len() {
+            return Ok(Found::Unended);
+        }
+        Ok(Found::Line)
     }
-}
-
-// Lays the line that begins there into the window.
-pub fn fetch<F: Read + Seek>(
-    source: &mut Option<F>,
-    window: &mut Window,
-    at: u64,
-) -> io::Result<Fetched> {
-    if FAR <= at {
-        return Ok(Fetched { have: 0, to: 0 });
-    }
-    let have = read_at(source, window, at)?;
-    Ok(Fetched {
-        have: have,
-        to: line_end(window, have),
-    })
-}
-
-// Goes to the next line. One that ends with the file and not with a newline, or is too long, is not understood.
-pub fn next<R: Files>(
-    rt: &R,
-    source: &mut Option<R::File>,
-    window: &mut Window,
-    desk: &mut Desk,
-) -> io::Result<()> {
-    desk[desk::KIND] = table::NOTHING;
-    opened(rt, source, desk);
-    if source.is_none() {
-        desk[desk::KIND] = table::MISSING;
-        return Ok(());
-    }
-    let at = desk[desk::NEXT];
-    let line = fetch(source, window, at)?;
-    desk[desk::AT] = at;
-    desk[desk::LENGTH] = line.to as u64;
-    desk[desk::NEXT] = desk::sum(at as usize, desk::sum(line.to, 1)) as u64;
-    desk::count(desk, desk::LINE, 0);
-    desk[desk::KIND] = begun(line);
-    Ok(())
-}
-
-// What is known of a line before it is looked at.
-fn begun(line: Fetched) -> u64 {
-    if line.have == 0 {
-        return table::END;
-    }
-    if line.have <= line.to {
-        return table::BAD;
-    }
-    if LONGEST < line.to {
-        return table::BAD;
-    }
-    table::UNREAD
-}
-
-// The turns that are left.
-pub fn left(turns: u64, desk: &Desk) -> u64
-    requires { 0 < turns }
-    ensures { result < turns }
-{
-    if desk[desk::STOP] == 1 {
-        return 0;
-    }
-    turns - 1
 }

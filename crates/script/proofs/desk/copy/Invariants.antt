@@ -1,6 +1,0 @@
--- The numbers that are left fall.
-use Rattle.std.proofs.Common.{◌-◌}
-use Rattle.script.proofs.desk.copy.Given as goal
-
-abbrev pub decreases-loop-i : goal.decreases-loop-i
-decreases-loop-i l = l.n - l.i

@@ -1,6 +1,0 @@
--- The characters that are left fall.
-use Rattle.std.proofs.Common.{◌-◌}
-use Rattle.script.proofs.table.begins.Given as goal
-
-abbrev pub decreases-loop-i : goal.decreases-loop-i
-decreases-loop-i l = l.n - l.i
