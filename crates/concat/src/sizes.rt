@@ -16,10 +16,7 @@ pub fn measure_one(a: &Allocator, atoms: AtomSlots, size: usize, n: u32) -> Resu
     requires { AtomsWithin a.now atoms.starts.now atoms.ends.now }
     ensures { verdict_paper result ≡ one_term size (atom_of a.now (atoms_of atoms.entry) n) }
 {
-    let len = match arg::atom_of(a, atoms, n)? {
-        Atom::Range(start, end) => end - start,
-        Atom::Value(v) => node::len_for_value(v),
-    };
+    let len = arg::length(arg::atom_of(a, atoms, n)?);
     need(len == size, Code::InvalidSize, NIL)
 }
 

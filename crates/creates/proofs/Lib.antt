@@ -1,4 +1,2 @@
--- Laws that several proofs of this crate cite.
-pub mod Rooms
-pub mod Numbers
+-- A law that a proof of this crate cites.
 pub mod Parts

@@ -29,10 +29,7 @@ fn bounded_atom(
     ensures facts { IfOk result (λ x. AtomIn a.now (atom_paper x) × (start ≤ end) × (end ≤ atom_length (atom_paper x))) }
 {
     let found = arg::atom_of(a, atoms, n)?;
-    let len = match found {
-        Atom::Range(from, to) => to - from,
-        Atom::Value(v) => node::len_for_value(v),
-    };
+    let len = arg::length(found);
     need(start <= len, Code::StartOutOfBounds, n)?;
     need(end <= len, Code::EndOutOfBounds, n)?;
     need(start <= end, Code::InvalidBounds, n)?;

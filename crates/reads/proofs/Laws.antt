@@ -1,24 +1,23 @@
 -- Laws of comparing bytes, and of the part that atom hands back. Assumes nothing.
-use Prim.Native.Nat.{ℕ, ◌+◌, ◌-◌, ◌≤◌, ◌<◌}
+use Prim.Native.Nat.{ℕ, ◌<◌}
 use mathlib.Core.Path.{◌≡◌, refl, sym, ap, ap₂, subst, ◌∙◌}
 use mathlib.Core.Bool.{Bool, true, false, ◌&&◌, false≢true}
-use mathlib.Core.List.{List, [], ◌∷◌, ◌++◌, append-nil}
-use mathlib.Core.Option.{none, some}
-use native.Mathlib.Numerals.{add-one}
+use mathlib.Core.List.{List, [], ◌∷◌}
+use mathlib.Core.Option.{none}
 use native.Mathlib.Omega.{arith}
 use lib.Dec.{eqb}
-use lib.ListN.{length, get_or, take, drop, length-drop, drop_of_length-le, take-append-drop}
-use lib.Seq.{drop-cons, drop-drop, take_all}
-use borrow.Author.Tests.{eq-eqb, ne_eqb, eqb-true}
+use lib.ListN.{length}
+use borrow.Author.Tests.{eq-eqb, eqb-true}
 use Rattle.rules.specs.declared.Allocator.{Allocator}
-use Rattle.rules.specs.Small.{fits, be, small_bytes, Octets}
-use Rattle.rules.specs.Said.{Said, says, refuses, says_of}
+use Rattle.rules.specs.Small.{fits, small_bytes, Octets}
+use Rattle.rules.specs.Said.{Said, says, refuses}
 use Rattle.rules.specs.Node.{nil}
 use Rattle.rules.specs.State.{AtomSlots, bytes_sound}
-use Rattle.rules.specs.Reads.{Arg, pair_arg, bytes_arg, small_arg, Atom, range, value, atom_arg, atom_of, atom_bytes, part_of, atom, scratch_after, part_bytes, same_bytes, eq_args}
+use Rattle.rules.specs.Reads.{Atom, range, value, atom_of, atom_bytes, part_of, atom, scratch_after, part_bytes, same_bytes}
 use Rattle.std.specs.Prelude as Std
-use Rattle.std.specs.Prelude.{Some, None}
+use Rattle.std.specs.Prelude.{Some, None, nat_eq}
 use Rattle.std.specs.Option.{option_eq}
+use Rattle.std.specs.Cmp.Lexicographic.{pointwise}
 use Rattle.rules.specs.Paper.{option_paper}
 use Rattle.reads.specs.Parts.{PartIn}
 use Rattle.rules.proofs.Tests.{both}
@@ -53,39 +52,13 @@ decided x y false f g = other (same_bytes x y) refl
 pub same_comm : (x y : List ℕ) → same_bytes x y ≡ same_bytes y x
 same_comm x y = decided x y (same_bytes y x) (λ h. sym (same_true y x h)) (λ e. rw e (same_refl y))
 
-pub same_lengths : (x y : List ℕ) → (length x ≡ length y → ⊥) → same_bytes x y ≡ false
-same_lengths x y f = decided x y false (λ h. absurd (false≢true h)) (λ e. absurd (f (ap length e)))
-
--- ---- a turn of the loop that compares
-
-pub same_next : (x y : List ℕ) (i : ℕ) → i < length x → i < length y
-    → same_bytes (drop i x) (drop i y) ≡ (eqb (get_or x i 0) (get_or y i 0) && same_bytes (drop (i + 1) x) (drop (i + 1) y))
+-- so std's equality of slices of bytes is same_bytes
+pub pointwise_same : (x y : List ℕ) → pointwise nat_eq x y ≡ same_bytes x y
 unfolding same_bytes
-same_next x y i h k = rw (drop-cons x i 0 h, drop-cons y i 0 k, add-one) refl
-
-pub same_end : (x y : List ℕ) (i : ℕ) → length x ≤ i → length y ≤ i → same_bytes (drop i x) (drop i y) ≡ true
-unfolding same_bytes
-same_end x y i h k = rw (drop_of_length-le x {i = i} h, drop_of_length-le y {i = i} k)
-
--- ---- a block that agrees leaves the rests to compare
-
-same_front : (p x y : List ℕ) → same_bytes (p ++ x) (p ++ y) ≡ same_bytes x y
-unfolding same_bytes
-same_front [] x y = refl
-same_front (a ∷ p) x y = rw (eq-eqb a a refl) (same_front p x y)
-
-pub same_block : (x y : List ℕ) (n i : ℕ) → same_bytes (take n (drop i x)) (take n (drop i y)) ≡ true
-    → same_bytes (drop i x) (drop i y) ≡ same_bytes (drop (i + n) x) (drop (i + n) y)
-same_block x y n i h =
-    ap₂ same_bytes (sym (take-append-drop n (drop i x))) (sym (take-append-drop n (drop i y)))
-    ∙ ap (λ p. same_bytes (take n (drop i x) ++ drop n (drop i x)) (p ++ drop n (drop i y))) (sym (same_true (take n (drop i x)) (take n (drop i y)) h))
-    ∙ same_front (take n (drop i x)) (drop n (drop i x)) (drop n (drop i y))
-    ∙ ap₂ same_bytes (drop-drop n i x) (drop-drop n i y)
-
--- one that does not leaves the rests unequal
-pub odd_block : (x y : List ℕ) (n : ℕ) → same_bytes (take n x) (take n y) ≡ false → same_bytes x y ≡ false
-odd_block x y n h =
-    decided x y false (λ k. absurd (false≢true k)) (λ e. absurd (false≢true (sym h ∙ ap (λ z. same_bytes (take n z) (take n y)) e ∙ same_refl (take n y))))
+pointwise_same [] [] = refl
+pointwise_same [] (b ∷ y) = refl
+pointwise_same (a ∷ x) [] = refl
+pointwise_same (a ∷ x) (b ∷ y) = ap (λ r. eqb a b && r) (pointwise_same x y)
 
 -- ---- a small value's bytes
 
@@ -98,10 +71,7 @@ same-value v w h k =
     let q : v ≡ w = cc in
     eq-eqb v w q
 
--- bytes that fit are those of their value, and no others are those of a small value
-pub same-fits : (v w : ℕ) (l : List ℕ) → v < 67108864 → Octets l → fits l ≡ some w → same_bytes (small_bytes v) l ≡ eqb v w
-same-fits v w l h o e = rw (← (fits-bytes l w o e)) (same-value v w h (fits-value l w o e))
-
+-- bytes that do not fit are those of no small value
 pub same-unfit : (v : ℕ) (l : List ℕ) → v < 67108864 → fits l ≡ none → same_bytes (small_bytes v) l ≡ false
 same-unfit v l h e =
     decided (small_bytes v) l false (λ k. absurd (false≢true k)) λ k.
@@ -133,14 +103,6 @@ part_in a b t n scratch =
 
 pub part_says : (a : Allocator) (b : List ℕ) (t : AtomSlots) (n scratch : ℕ) (x : Atom) → atom a b t n scratch ≡ says x → PartIn (length b) scratch (says x)
 part_says a b t n scratch x h = subst (PartIn (length b) scratch) h (part_in a b t n scratch)
-
--- all four bytes of a scratch are written
-pub whole_scratch : (v : ℕ) (scratch : List ℕ) → length scratch ≡ 4 → be 4 v ++ drop 4 scratch ≡ be 4 v
-whole_scratch v scratch h = rw (drop_of_length-le scratch {i = 4} (omega arith), append-nil)
-
--- a part up to the end of a slice, as the code takes it
-pub part_tail : (k : ℕ) (l : List ℕ) → take (length l - k) (drop k l) ≡ drop k l
-part_tail k l = take_all (length l - k) (drop k l) (simp length-drop (omega arith))
 
 -- filling the scratch leaves its length, so that the second call answers as the first
 pub fill_length : (a : Allocator) (b : List ℕ) (t : AtomSlots) (n : ℕ) (scratch : List ℕ) → length (scratch_after (atom a b t n (length scratch)) scratch) ≡ length scratch

@@ -1,11 +1,11 @@
--- Where an atom's bytes lie: within the byte store, and in which memory the part that atom hands back is; and how far two byte strings agree.
-use Rattle.std.specs.Prelude.{ℕ, ◌+◌, ◌-◌, ◌≤◌, ◌<◌, ◌≡◌, false, List, length, drop}
+-- Where an atom's bytes lie: within the byte store, and in which memory the part that atom hands back is.
+use Rattle.std.specs.Prelude.{ℕ, ◌+◌, ◌-◌, ◌≤◌, ◌<◌, ◌≡◌, length}
 use Rattle.rules.specs.declared.Allocator.{Allocator}
 use Rattle.rules.specs.Small.{len_for}
 use Rattle.rules.specs.Said.{Said, says, refuses}
 use Rattle.rules.specs.State.{AtomSlots}
 use Rattle.rules.specs.Lent.{Ref}
-use Rattle.rules.specs.Reads.{Atom, range, value, atom, same_bytes}
+use Rattle.rules.specs.Reads.{Atom, range, value, atom}
 
 -- the memory block of the part, from those of the byte store and of the scratch; a refusal's empty part is of the byte store
 abbrev pub block_of : ℕ → ℕ → Said Atom → ℕ
@@ -22,13 +22,6 @@ offset_of bytes scratch (refuses code node) = bytes
 -- document 01's atom, of what is lent to the two calls
 abbrev pub atom_lent : Allocator → Ref → AtomSlots → Ref → ℕ → Said Atom
 atom_lent a bytes t scratch n = atom a bytes t n (length scratch)
-
--- x and y agree from one index up to r; where a whole block of a size is left there, they differ
-abbrev pub Ahead : List ℕ → List ℕ → ℕ → ℕ → ℕ → Type 0
-Ahead x y from size r =
-    (r ≤ length x)
-    × (same_bytes (drop from x) (drop from y) ≡ same_bytes (drop r x) (drop r y))
-    × (size ≤ length x - r → same_bytes (drop r x) (drop r y) ≡ false)
 
 -- what an atom has that atom finds beside a byte store and a scratch of these lengths: its range lies in the store, or its value has 26 bits and
 -- the scratch four bytes

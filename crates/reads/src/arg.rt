@@ -6,7 +6,7 @@ ghost use Rattle.rules.proofs.Args.{ArgIn, AtomIn};
 ghost use Rattle.rules.specs.Node.{bytes_at};
 ghost use Rattle.rules.specs.Said.{says};
 ghost use Rattle.rules.specs.Lent.{atoms_of, AtomsWithin};
-ghost use Rattle.rules.specs.Reads.{arg_of, arg as arg_rule, atom_arg, atom_of};
+ghost use Rattle.rules.specs.Reads.{arg_of, arg as arg_rule, atom_arg, atom_of, atom_length};
 ghost use Rattle.rules.specs.Paper.{said_by, arg_paper, atom_paper};
 
 use rules::{Allocator, Arg, Atom, AtomSlots, Code, NIL, Refusal, View, need};
@@ -59,6 +59,16 @@ pub fn atom_arg(n: u32, x: Arg) -> Result<Atom, Refusal>
         }),
         Arg::Bytes(_, start, end) => Ok(Atom::Range(start, end)),
         Arg::Small(v) => Ok(Atom::Value(v)),
+    }
+}
+
+// How many bytes an atom has.
+pub fn length(x: Atom) -> usize
+    ensures { result ≡ atom_length (atom_paper x) }
+{
+    match x {
+        Atom::Range(start, end) => end.saturating_sub(start),
+        Atom::Value(v) => node::len_for_value(v),
     }
 }
 

@@ -1,69 +1,15 @@
 // atom_eq: whether two atoms have the same bytes, whatever their kinds.
-ghost use Rattle.std.specs.Prelude.{◌≤◌, ◌<◌, ◌≡◌, length};
+ghost use Rattle.std.specs.Prelude.{◌<◌, ◌≡◌, length};
 ghost use Rattle.rules.specs.Small.{small_bytes};
 ghost use Rattle.rules.specs.Said.{says};
 ghost use Rattle.rules.specs.Lent.{atoms_of};
 ghost use Rattle.rules.specs.Reads.{atom_bytes, same_bytes, atom_eq};
 ghost use Rattle.rules.specs.Paper.{said_in, atom_paper};
 ghost use Rattle.rules.proofs.Args.{Inside};
-ghost use Rattle.reads.specs.Parts.{Ahead};
 
 use super::arg;
 use rules::{Allocator, Atom, AtomSlots, Code, NIL, Refusal, need};
 use state::sound;
-
-// The blocks by which long atoms are compared.
-const LARGE: usize = 32;
-
-const SMALL: usize = 8;
-
-// Whether two byte strings of one length are equal. Every byte is looked at, with no way out of the loop, so that the machine can compare
-// many at once.
-fn agree(x: &[u8], y: &[u8]) -> bool
-    requires { length x.now ≡ length y.now }
-    ensures { result ≡ same_bytes x.now y.now }
-{
-    let mut all = true;
-    for i in 0..x.len() {
-        all &= x[i] == y[i];
-    }
-    all
-}
-
-// How far two byte strings of one length agree from an index on, by whole blocks of a size. Where a whole block is left, it differs.
-fn ahead(x: &[u8], y: &[u8], from: usize, size: usize) -> usize
-    requires { (length x.now ≡ length y.now) × (from ≤ length x.now) × (0 < size) }
-    ensures { Ahead x.now y.now from size result }
-{
-    let mut i = from;
-    while size <= x.len() - i {
-        let end = i + size;
-        if agree(&x[i..end], &y[i..end]) {
-            i = end;
-        } else {
-            return i;
-        }
-    }
-    i
-}
-
-// Whether two byte strings are equal: by large blocks, then small ones, then what is left.
-fn same(x: &[u8], y: &[u8]) -> bool
-    ensures { result ≡ same_bytes x.now y.now }
-{
-    if x.len() != y.len() {
-        return false;
-    }
-    let far = ahead(x, y, 0, LARGE);
-    if LARGE <= x.len() - far {
-        return false;
-    }
-    let near = ahead(x, y, far, SMALL);
-    if SMALL <= x.len() - near {
-        return false;
-    }
-    agree(&x[near..], &y[near..])
-}
 
 // Whether a byte string is that of a small value: only the bytes that fit a small atom are those of one.
 fn same_small(v: u32, x: &[u8]) -> bool
@@ -79,10 +25,7 @@ fn equal(bytes: &[u8], x: Atom, y: Atom) -> bool
     ensures { result ≡ same_bytes (atom_bytes bytes.now (atom_paper x)) (atom_bytes bytes.now (atom_paper y)) }
 {
     match (x, y) {
-        (Atom::Range(from, to), Atom::Range(start, end)) => same(
-            &bytes[from..to],
-            &bytes[start..end],
-        ),
+        (Atom::Range(from, to), Atom::Range(start, end)) => bytes[from..to] == bytes[start..end],
         (Atom::Range(start, end), Atom::Value(v)) => same_small(v, &bytes[start..end]),
         (Atom::Value(v), Atom::Range(start, end)) => same_small(v, &bytes[start..end]),
         (Atom::Value(v), Atom::Value(w)) => v == w,

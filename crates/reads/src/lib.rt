@@ -13,8 +13,8 @@ ghost use Rattle.rules.specs.Reads.{atom_len, small_number, node as node_rule, c
 ghost use Rattle.rules.specs.Paper.{said_in, said_by, option_paper, visitor_paper, sexp_paper, next_paper, status_paper};
 
 use rules::{
-    Allocator, Arg, Atom, AtomSlots, Code, Counts, NIL, NodeStatus, NodeVisitor, PairSlots,
-    Refusal, SExp, View, need,
+    Allocator, Arg, AtomSlots, Code, Counts, NIL, NodeStatus, NodeVisitor, PairSlots, Refusal,
+    SExp, View, need,
 };
 use state::sound;
 
@@ -60,20 +60,13 @@ pub fn node(
         Arg::Bytes(_, start, end) => Ok(NodeVisitor::Buffer(start, end)),
         Arg::Small(v) => Ok(NodeVisitor::U32(v)),
         Arg::Pair(i) => {
-            let first = pairs.firsts[i];
-            let rest = pairs.rests[i];
-            need(
-                sound::children_sound(first, rest, a.used.atoms, i),
-                Code::Unsound,
-                NIL,
-            )?;
+            let (first, rest) = children(a, pairs, i)?;
             Ok(NodeVisitor::Pair(first, rest))
         }
     }
 }
 
 // Whether a node is an atom, or its two children, beside a sound record.
-#[tactic(auto, unfolding(rules::specs::Said::need, rules::specs::Reads::children_of))]
 fn sexp_of(a: &Allocator, pairs: PairSlots, n: u32) -> Result<SExp, Refusal>
     requires { PairsWithin a.now pairs.firsts.now pairs.rests.now }
     ensures { said_by sexp_paper result ≡ sexp_of a.now (pairs_of pairs.entry) (view n) }
@@ -81,13 +74,7 @@ fn sexp_of(a: &Allocator, pairs: PairSlots, n: u32) -> Result<SExp, Refusal>
     match node::view(n) {
         View::Pair(i) => {
             need(i < a.used.pairs, Code::NotValid, NIL)?;
-            let first = pairs.firsts[i];
-            let rest = pairs.rests[i];
-            need(
-                sound::children_sound(first, rest, a.used.atoms, i),
-                Code::Unsound,
-                NIL,
-            )?;
+            let (first, rest) = children(a, pairs, i)?;
             Ok(SExp::Pair(first, rest))
         }
         View::Bytes(i) => {
@@ -135,10 +122,7 @@ pub fn atom_len(a: &Allocator, atoms: AtomSlots, n: u32) -> Result<usize, Refusa
         Code::Unsound,
         NIL,
     )?;
-    match arg::atom_of(a, atoms, n)? {
-        Atom::Range(start, end) => Ok(end - start),
-        Atom::Value(v) => Ok(node::len_for_value(v)),
-    }
+    Ok(arg::length(arg::atom_of(a, atoms, n)?))
 }
 
 // The value of an atom whose bytes are those of a small one, whatever its kind.

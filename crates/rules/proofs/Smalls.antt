@@ -161,9 +161,6 @@ fits-value l v o e = (small l v o e).bits
 pub fits-bytes : (l : List ℕ) (v : ℕ) → Octets l → fits l ≡ some v → small_bytes v ≡ l
 fits-bytes l v o e = (small l v o e).bytes
 
-pub fits-length : (l : List ℕ) (v : ℕ) → Octets l → fits l ≡ some v → len_for v ≡ length l
-fits-length l v o e = (small l v o e).long
-
 -- a value of 26 bits, by how many bytes it takes
 cases : (P : ℕ → Type 0) (v : ℕ) → v < 67108864
     → (v ≡ 0 → P 0) → (0 < v → v < 128 → P 1) → (128 ≤ v → v < 32768 → P 2) → (32768 ≤ v → v < 8388608 → P 3) → (8388608 ≤ v → P 4) → P (len_for v)

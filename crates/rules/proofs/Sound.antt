@@ -45,12 +45,6 @@ module _ (a : Allocator) where
       let q = both _ _ p.1 in
       record { limits = limits a p.0; starts_fit = leb-true _ _ q.0; ends-fit = leb-true _ _ q.1 }
 
-  pub pairs-lent : (firsts rests : ℕ) → (limits_sound a && pairs_fit a firsts rests) ≡ true → PairsLent a firsts rests
-  pairs-lent firsts rests h =
-      let p = both (limits_sound a) _ h in
-      let q = both _ _ p.1 in
-      record { limits = limits a p.0; firsts-fit = leb-true _ _ q.0; rests-fit = leb-true _ _ q.1 }
-
   pub slots_lent : (starts ends firsts rests : ℕ) → (limits_sound a && atoms_fit a starts ends && pairs_fit a firsts rests) ≡ true → SlotsLent a starts ends firsts rests
   slots_lent starts ends firsts rests h =
       let p = both (limits_sound a && atoms_fit a starts ends) _ h in

@@ -1,11 +1,10 @@
 -- Laws that turn a test's fact into the value of the test, and back. Assumes nothing.
-use Prim.Native.Nat.{ℕ, suc, ◌+◌, min, ◌≤◌, ◌<◌}
+use Prim.Native.Nat.{ℕ, ◌≤◌}
 use mathlib.Core.Path.{◌≡◌, refl}
 use mathlib.Core.Bool.{Bool, true, false, cond, ◌&&◌, and-false, and-true, false≢true}
-use native.Mathlib.Numerals.{add-one}
 use native.Mathlib.Omega.{arith}
 use borrow.Author.Tests.{lt-ltb, le-ltb, le-leb, lt-leb, eq-eqb, ne_eqb, leb-true, leb-false}
-use lib.Dec.{leb, ltb}
+use lib.Dec.{leb}
 
 -- `search (tests, arith)` closes a return whose contract goes by such tests
 pub ruleset tests = (lt-ltb, le-ltb, le-leb, lt-leb, eq-eqb, ne_eqb, and-false, and-true)
@@ -28,14 +27,3 @@ same_at f g false false p q = refl
 -- two tests that follow from each other are one
 pub same-leb : (a b c d : ℕ) → (a ≤ b → c ≤ d) → (c ≤ d → a ≤ b) → leb a b ≡ leb c d
 same-leb a b c d f g = same_at f g (leb a b) (leb c d) refl refl
-
--- n + 1 entries fit exactly where there is an entry n
-pub next_fits : (n one other : ℕ) → (leb (n + 1) one && leb (n + 1) other) ≡ (ltb n one && ltb n other)
-next_fits n one other = rw add-one
-
--- a capped sum passes a test below the cap exactly where the sum does
-pub capped : (s m : ℕ) → m < 18446744073709551615 → leb (min s 18446744073709551615) m ≡ leb s m
-capped s m h = same-leb (min s 18446744073709551615) m s m (λ p. omega arith) (λ p. omega arith)
-
-pub capped_lt : (s m : ℕ) → m < 18446744073709551615 → ltb (min s 18446744073709551615) m ≡ ltb s m
-capped_lt s m h = same-leb (suc (min s 18446744073709551615)) m (suc s) m (λ p. omega arith) (λ p. omega arith)

@@ -1,8 +1,8 @@
 -- `reads::eq::equal` meets its contract.
-use Rattle.std.proofs.Common.{◌≤◌, length, sym, ◌∙◌}
+use Rattle.std.proofs.Common.{◌≤◌, length, sym}
 use Rattle.rules.specs.Small.{small_bytes}
 use Rattle.rules.proofs.Lists.{part_slice}
-use Rattle.reads.proofs.Laws.{same_comm, same-value}
+use Rattle.reads.proofs.Laws.{pointwise_same, same_comm, same-value}
 use Rattle.reads.proofs.eq.equal.Goals as goal
 
 pub returns-in-Range-Range : goal.returns-in-Range-Range
@@ -10,7 +10,7 @@ returns-in-Range-Range c =
     let m = c.in-Range-Range in
     let p : (m.from ≤ m.to) × (m.to ≤ length c.args.bytes.now) = rw m.is-0 at c.requires.0 in
     let q : (m.start ≤ m.end) × (m.end ≤ length c.args.bytes.now) = rw m.is-1 at c.requires.1 in
-    simp (c.same.ensures, m.is-0, m.is-1, part_slice _ _ c.args.bytes.now p.0, part_slice _ _ c.args.bytes.now q.0)
+    simp (c.eq.ensures, m.is-0, m.is-1, part_slice _ _ c.args.bytes.now p.0, part_slice _ _ c.args.bytes.now q.0) (pointwise_same _ _)
 
 pub returns-in-Range-Value : goal.returns-in-Range-Value
 returns-in-Range-Value c =

@@ -1,10 +1,7 @@
 -- `reads::part::atom` meets its contract.
-use Rattle.std.proofs.Common.{arith, length, ◌≡◌, ◌≤◌, ◌<◌, ap, ◌∙◌}
-use Rattle.rules.specs.Said.{says}
-use Rattle.rules.specs.Paper.{atom_paper}
+use Rattle.std.proofs.Common.{arith, length, ◌≡◌, ◌≤◌, ◌<◌}
 use Rattle.rules.proofs.Smalls.{small-length}
 use Rattle.rules.proofs.Lists.{part_slice}
-use Rattle.reads.specs.Parts.{PartIn}
 use Rattle.reads.proofs.part.atom.Goals as goal
 
 pub overflow_sub-from : goal.overflow_sub-from
