@@ -298,7 +298,7 @@ impl From<Result<NodeStatus, Refusal>> for CStatus {
     }
 }
 
-// The node that a call made; what the call did to the record stands in the record's words.
+// The node that a call made; what the call did to the record stands in the record.
 #[repr(C)]
 #[derive(Clone, Copy)]
 pub struct CAnswer {

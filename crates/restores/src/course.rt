@@ -45,9 +45,7 @@ pub fn usable(k: &Counts, a: &Allocator, atoms: AtomSlots, pairs: PairSlots) -> 
     ensures value { result ≡ usable_rule k.now a.now (atoms_of atoms.entry) (pairs_of pairs.entry) }
     ensures facts { OnTrue result (Below k.now a.now.used) }
 {
-    within(k, &a.used)
-        && sound::atom_slots_sound(k, atoms)
-        && sound::pair_slots_sound(k, pairs)
+    within(k, &a.used) && sound::atom_slots_sound(k, atoms) && sound::pair_slots_sound(k, pairs)
 }
 
 // A node whose bytes are new: an atom of few bytes can be made again; the heap is tested before anything is cut.

@@ -27,14 +27,14 @@ fn fitted(len: usize, room: usize) -> Result<usize, Refusal>
 // How many bytes a node's shortest form takes, with so many levels and so much room left; or the first fault in file order.
 fn measure(
     a: &Allocator,
-    lists: Slices,
+    lists: &Slices,
     levels: usize,
     room: usize,
     n: u32,
 ) -> Result<usize, Refusal>
-    requires sound { lists_sound a.now (lists_of lists) ≡ true }
-    requires lent { SlicesLent a.now lists }
-    ensures { said_in result ≡ says_of length (form_of a.now (lists_of lists.entry) levels room n) }
+    requires sound { lists_sound a.now (lists_of lists.now) ≡ true }
+    requires lent { SlicesLent a.now lists.now }
+    ensures { said_in result ≡ says_of length (form_of a.now (lists_of lists.now) levels room n) }
 {
     need(levels != 0, Code::TooDeep, NIL)?;
     match reads::node(a, lists.atoms, lists.pairs, n)? {
@@ -51,14 +51,14 @@ fn measure(
 }
 
 // Writes a node's shortest form at a place, and says where the next begins. What was measured is not tested again: the room is there.
-fn put(a: &Allocator, lists: Slices, levels: usize, n: u32, file: &mut [u8], at: usize) -> usize
-    requires sound { lists_sound a.now (lists_of lists) ≡ true }
-    requires lent { SlicesLent a.now lists }
+fn put(a: &Allocator, lists: &Slices, levels: usize, n: u32, file: &mut [u8], at: usize) -> usize
+    requires sound { lists_sound a.now (lists_of lists.now) ≡ true }
+    requires lent { SlicesLent a.now lists.now }
     requires fits { (at ≤ length file.old)
-        × Accepted (form_of a.now (lists_of lists) levels (length file.old - at) n) }
+        × Accepted (form_of a.now (lists_of lists.now) levels (length file.old - at) n) }
     ensures written { file.new
-        ≡ over file.old at (formed (form_of a.now (lists_of lists.entry) levels (length file.old - at) n)) }
-    ensures end { result ≡ at + length (formed (form_of a.now (lists_of lists.entry) levels (length file.old - at) n)) }
+        ≡ over file.old at (formed (form_of a.now (lists_of lists.now) levels (length file.old - at) n)) }
+    ensures end { result ≡ at + length (formed (form_of a.now (lists_of lists.now) levels (length file.old - at) n)) }
 {
     match reads::node(a, lists.atoms, lists.pairs, n) {
         Ok(NodeVisitor::Buffer(start, end)) => atom::put_form(&lists.bytes[start..end], file, at),
@@ -91,6 +91,6 @@ pub fn save(a: &Allocator, lists: Slices, n: u32, file: &mut [u8]) -> Result<usi
         Code::Unsound,
         NIL,
     )?;
-    measure(a, lists, prefix::LEVELS, file.len(), n)?;
-    Ok(put(a, lists, prefix::LEVELS, n, file, 0))
+    measure(a, &lists, prefix::LEVELS, file.len(), n)?;
+    Ok(put(a, &lists, prefix::LEVELS, n, file, 0))
 }
