@@ -7,7 +7,7 @@ ghost use Rattle.clvm_allocator.specs.Answers.{bit, number_c, option_c, visited_
 ghost use Rattle.reads.specs.Parts.{atom_lent};
 
 use clvm_allocator::answers::{CChildren, CNumber, COption, CPart, CStatus, CVisited};
-use rules::{Counts, Allocator};
+use rules::{Allocator, Counts};
 
 #[unsafe(no_mangle)]
 pub extern "C" fn clvm_node(

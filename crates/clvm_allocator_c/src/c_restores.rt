@@ -6,7 +6,7 @@ ghost use Rattle.rules.specs.Restores.{restore_plain, restore_transparent, maybe
 ghost use Rattle.clvm_allocator.specs.Answers.{given, crossed, done_c, restored_c};
 
 use clvm_allocator::answers::{CAnswer, CRestored};
-use rules::{Checkpoint, Counts, Allocator};
+use rules::{Allocator, Checkpoint, Counts};
 
 #[unsafe(no_mangle)]
 pub extern "C" fn clvm_restore_checkpoint(

@@ -8,7 +8,7 @@ ghost use Rattle.rules.specs.Record.{checkpoint as checkpoint_rule, transparent_
 ghost use Rattle.clvm_allocator.specs.Answers.{bit, number_c, done_c, given, crossed, taken_c};
 
 use clvm_allocator::answers::{CAnswer, CNumber};
-use rules::{Checkpoint, Counts, Allocator};
+use rules::{Allocator, Checkpoint, Counts};
 
 #[unsafe(no_mangle)]
 pub extern "C" fn clvm_new_limited(a: &mut Allocator, limit: usize) -> CAnswer
