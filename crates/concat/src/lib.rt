@@ -54,13 +54,12 @@ fn concat_all(
     need(atom::store_room(a, size, store), Code::Full, NIL)?;
     let from = a.used.bytes;
     let at = a.used.atoms;
-    let atoms = AtomSlots {
-        starts: store.starts,
-        ends: store.ends,
-    };
-    copies::copy_terms(a, store.bytes, atoms, nodes);
-    store.starts[at] = from as u32;
-    store.ends[at] = (from + size) as u32;
+    let bytes = &mut *store.bytes;
+    let starts = &mut *store.starts;
+    let ends = &mut *store.ends;
+    copies::copy_terms(a, bytes, AtomSlots { starts, ends }, nodes);
+    starts[at] = from as u32;
+    ends[at] = (from + size) as u32;
     *a = record::used_atom(size, *a);
     Ok(node::new(ObjectType::Bytes, at as u32))
 }
