@@ -6,13 +6,13 @@ mod token;
 ghost use Rattle.std.specs.Prelude.{◌≡◌, ◌≤◌, ◌<◌, Err, length};
 ghost use Rattle.rules.specs.Node.{nil};
 ghost use Rattle.rules.specs.Said.{refuses};
-ghost use Rattle.rules.specs.State.{Store, PairStore, together};
-ghost use Rattle.rules.specs.Lent.{lists_in, store_in, pair_store_in};
+ghost use Rattle.rules.specs.State.{Store, PairStore as Pairs, together};
+ghost use Rattle.rules.specs.Lent.{store_lent, pair_store_lent, lists_lent, SameStore, SamePairStore, SameStores};
 ghost use Rattle.rules.specs.Load.{reading, placed as placed_at, read_atom, read_pair, pair_item, item as item_of, at_end, levels_of, load as load_of};
 ghost use Rattle.rules.specs.Paper.{code_number, said_in, loaded};
 ghost use Rattle.load.specs.Readings.{Same, Always};
 
-use rules::{Allocator, Code, Fault, Loaded, NIL, Refusal};
+use rules::{Allocator, AtomStore, Code, Fault, Loaded, NIL, PairStore, Refusal, Stores};
 use state::sound;
 use token::Token;
 
@@ -44,15 +44,14 @@ fn atom_item(
     from: usize,
     to: usize,
     a: &mut Allocator,
-    bytes: &mut [u8],
-    starts: &mut [u32],
-    ends: &mut [u32],
+    store: &mut AtomStore,
 ) -> Result<Loaded, Fault>
     requires { (from ≤ to) × (to ≤ length f.now) }
-    ensures { Same (λ (p : PairStore). loaded result a.new (together (store_in bytes.new starts.new ends.new) p))
-        (λ p. read_atom f.now at from to a.old (together (store_in bytes.old starts.old ends.old) p)) }
+    ensures value { Same (λ (p : Pairs). loaded result a.new (together (store_lent store.new) p))
+        (λ p. read_atom f.now at from to a.old (together (store_lent store.old) p)) }
+    ensures same { SameStore store.old store.new }
 {
-    let made = creates::atom::new_atom(a, bytes, starts, ends, &f[from..to]);
+    let made = creates::atom::new_atom(a, store, &f[from..to]);
     placed(made, at, to)
 }
 
@@ -63,13 +62,13 @@ fn pair_item(
     first: u32,
     rest: u32,
     a: &mut Allocator,
-    firsts: &mut [u32],
-    rests: &mut [u32],
+    store: &mut PairStore,
 ) -> Result<Loaded, Fault>
-    ensures { Same (λ (s : Store). loaded result a.new (together s (pair_store_in firsts.new rests.new)))
-        (λ s. read_pair at next first rest a.old (together s (pair_store_in firsts.old rests.old))) }
+    ensures value { Same (λ (s : Store). loaded result a.new (together s (pair_store_lent store.new)))
+        (λ s. read_pair at next first rest a.old (together s (pair_store_lent store.old))) }
+    ensures same { SamePairStore store.old store.new }
 {
-    let made = creates::pair::new_pair(a, firsts, rests, first, rest);
+    let made = creates::pair::new_pair(a, store, first, rest);
     placed(made, at, next)
 }
 
@@ -80,22 +79,19 @@ fn item(
     at: usize,
     levels: usize,
     a: &mut Allocator,
-    bytes: &mut [u8],
-    starts: &mut [u32],
-    ends: &mut [u32],
-    firsts: &mut [u32],
-    rests: &mut [u32],
+    stores: &mut Stores,
 ) -> Result<Loaded, Fault>
-    ensures { loaded result a.new (lists_in bytes.new starts.new ends.new firsts.new rests.new)
-        ≡ item_of f.now levels at a.old (lists_in bytes.old starts.old ends.old firsts.old rests.old) }
+    ensures value { loaded result a.new (lists_lent stores.new)
+        ≡ item_of f.now levels at a.old (lists_lent stores.old) }
+    ensures same { SameStores stores.old stores.new }
 {
     if levels == 0 {
         return Err(fault(Code::TooDeep, at));
     }
     match token::token_at(f, at) {
         None => Err(fault(Code::BadEncoding, at)),
-        Some(Token::Opening) => pair(f, at, levels - 1, a, bytes, starts, ends, firsts, rests),
-        Some(Token::String(from, to)) => atom_item(f, at, from, to, a, bytes, starts, ends),
+        Some(Token::Opening) => pair(f, at, levels - 1, a, stores),
+        Some(Token::String(from, to)) => atom_item(f, at, from, to, a, &mut stores.atoms),
     }
 }
 
@@ -106,35 +102,25 @@ fn pair(
     at: usize,
     levels: usize,
     a: &mut Allocator,
-    bytes: &mut [u8],
-    starts: &mut [u32],
-    ends: &mut [u32],
-    firsts: &mut [u32],
-    rests: &mut [u32],
+    stores: &mut Stores,
 ) -> Result<Loaded, Fault>
     requires { at < length f.now }
-    ensures { loaded result a.new (lists_in bytes.new starts.new ends.new firsts.new rests.new)
-        ≡ pair_item (item_of f.now levels) at a.old (lists_in bytes.old starts.old ends.old firsts.old rests.old) }
+    ensures value { loaded result a.new (lists_lent stores.new)
+        ≡ pair_item (item_of f.now levels) at a.old (lists_lent stores.old) }
+    ensures same { SameStores stores.old stores.new }
 {
-    let first = item(f, at + 1, levels, a, bytes, starts, ends, firsts, rests)?;
-    let rest = item(f, first.next, levels, a, bytes, starts, ends, firsts, rests)?;
-    pair_item(at, rest.next, first.node, rest.node, a, firsts, rests)
+    let first = item(f, at + 1, levels, a, stores)?;
+    let rest = item(f, first.next, levels, a, stores)?;
+    pair_item(at, rest.next, first.node, rest.node, a, &mut stores.pairs)
 }
 
 // The whole file as one item: bytes after the root are bad encoding.
-fn whole(
-    a: &mut Allocator,
-    bytes: &mut [u8],
-    starts: &mut [u32],
-    ends: &mut [u32],
-    firsts: &mut [u32],
-    rests: &mut [u32],
-    f: &[u8],
-) -> Result<Loaded, Fault>
-    ensures { loaded result a.new (lists_in bytes.new starts.new ends.new firsts.new rests.new)
-        ≡ at_end (length f.now) (item_of f.now levels_of 0 a.old (lists_in bytes.old starts.old ends.old firsts.old rests.old)) }
+fn whole(a: &mut Allocator, stores: &mut Stores, f: &[u8]) -> Result<Loaded, Fault>
+    ensures value { loaded result a.new (lists_lent stores.new)
+        ≡ at_end (length f.now) (item_of f.now levels_of 0 a.old (lists_lent stores.old)) }
+    ensures same { SameStores stores.old stores.new }
 {
-    let root = item(f, 0, prefix::LEVELS, a, bytes, starts, ends, firsts, rests)?;
+    let root = item(f, 0, prefix::LEVELS, a, stores)?;
     if root.next == f.len() {
         Ok(root)
     } else {
@@ -144,30 +130,23 @@ fn whole(
 
 // Reads a whole program file: its root, or the first fault in file order with its place. A refusal gives the record back as it was given.
 #[tactic(auto, unfolding(rules::specs::Load::load))]
-pub fn load(
-    a: &mut Allocator,
-    bytes: &mut [u8],
-    starts: &mut [u32],
-    ends: &mut [u32],
-    firsts: &mut [u32],
-    rests: &mut [u32],
-    f: &[u8],
-) -> Result<Loaded, Fault>
-    ensures { loaded result a.new (lists_in bytes.new starts.new ends.new firsts.new rests.new)
-        ≡ load_of f.now a.old (lists_in bytes.old starts.old ends.old firsts.old rests.old) }
+pub fn load(a: &mut Allocator, stores: &mut Stores, f: &[u8]) -> Result<Loaded, Fault>
+    ensures value { loaded result a.new (lists_lent stores.new)
+        ≡ load_of f.now a.old (lists_lent stores.old) }
+    ensures same { SameStores stores.old stores.new }
 {
     if !sound::lists_sound(
         a,
-        bytes.len(),
-        starts.len(),
-        ends.len(),
-        firsts.len(),
-        rests.len(),
+        stores.atoms.bytes.len(),
+        stores.atoms.starts.len(),
+        stores.atoms.ends.len(),
+        stores.pairs.firsts.len(),
+        stores.pairs.rests.len(),
     ) {
         return Err(fault(Code::Unsound, 0));
     }
     let before = *a;
-    let root = whole(a, bytes, starts, ends, firsts, rests, f);
+    let root = whole(a, stores, f);
     if root.is_err() {
         *a = before;
     }
