@@ -7,12 +7,12 @@ ghost use Rattle.std.specs.Prelude.{◌≡◌, ◌≤◌, ◌<◌, Err, length};
 ghost use Rattle.rules.specs.Node.{nil};
 ghost use Rattle.rules.specs.Said.{refuses};
 ghost use Rattle.rules.specs.State.{Store, PairStore as Pairs, together};
-ghost use Rattle.rules.specs.Lent.{store_lent, pair_store_lent, lists_lent, SameStore, SamePairStore, SameStores};
+ghost use Rattle.rules.specs.Lent.{lists_in, store_in, pair_store_in};
 ghost use Rattle.rules.specs.Load.{reading, placed as placed_at, read_atom, read_pair, pair_item, item as item_of, at_end, levels_of, load as load_of};
 ghost use Rattle.rules.specs.Paper.{code_number, said_in, loaded};
 ghost use Rattle.load.specs.Readings.{Same, Always};
 
-use rules::{Allocator, AtomStore, Code, Fault, Loaded, NIL, PairStore, Refusal, Stores};
+use rules::{Allocator, AtomStore, Code, Fault, Loaded, NIL, PairStore, Refusal};
 use state::sound;
 use token::Token;
 
@@ -44,14 +44,20 @@ fn atom_item(
     from: usize,
     to: usize,
     a: &mut Allocator,
-    store: &mut AtomStore,
+    bytes: &mut [u8],
+    starts: &mut [u32],
+    ends: &mut [u32],
 ) -> Result<Loaded, Fault>
     requires { (from ≤ to) × (to ≤ length f.now) }
-    ensures value { Same (λ (p : Pairs). loaded result a.new (together (store_lent store.new) p))
-        (λ p. read_atom f.now at from to a.old (together (store_lent store.old) p)) }
-    ensures same { SameStore store.old store.new }
+    ensures { Same (λ (p : Pairs). loaded result a.new (together (store_in bytes.new starts.new ends.new) p))
+        (λ p. read_atom f.now at from to a.old (together (store_in bytes.old starts.old ends.old) p)) }
 {
-    let made = creates::atom::new_atom(a, store, &f[from..to]);
+    let mut store = AtomStore {
+        bytes,
+        starts,
+        ends,
+    };
+    let made = creates::atom::new_atom(a, &mut store, &f[from..to]);
     placed(made, at, to)
 }
 
@@ -62,13 +68,14 @@ fn pair_item(
     first: u32,
     rest: u32,
     a: &mut Allocator,
-    store: &mut PairStore,
+    firsts: &mut [u32],
+    rests: &mut [u32],
 ) -> Result<Loaded, Fault>
-    ensures value { Same (λ (s : Store). loaded result a.new (together s (pair_store_lent store.new)))
-        (λ s. read_pair at next first rest a.old (together s (pair_store_lent store.old))) }
-    ensures same { SamePairStore store.old store.new }
+    ensures { Same (λ (s : Store). loaded result a.new (together s (pair_store_in firsts.new rests.new)))
+        (λ s. read_pair at next first rest a.old (together s (pair_store_in firsts.old rests.old))) }
 {
-    let made = creates::pair::new_pair(a, store, first, rest);
+    let mut store = PairStore { firsts, rests };
+    let made = creates::pair::new_pair(a, &mut store, first, rest);
     placed(made, at, next)
 }
 
@@ -79,19 +86,22 @@ fn item(
     at: usize,
     levels: usize,
     a: &mut Allocator,
-    stores: &mut Stores,
+    bytes: &mut [u8],
+    starts: &mut [u32],
+    ends: &mut [u32],
+    firsts: &mut [u32],
+    rests: &mut [u32],
 ) -> Result<Loaded, Fault>
-    ensures value { loaded result a.new (lists_lent stores.new)
-        ≡ item_of f.now levels at a.old (lists_lent stores.old) }
-    ensures same { SameStores stores.old stores.new }
+    ensures { loaded result a.new (lists_in bytes.new starts.new ends.new firsts.new rests.new)
+        ≡ item_of f.now levels at a.old (lists_in bytes.old starts.old ends.old firsts.old rests.old) }
 {
     if levels == 0 {
         return Err(fault(Code::TooDeep, at));
     }
     match token::token_at(f, at) {
         None => Err(fault(Code::BadEncoding, at)),
-        Some(Token::Opening) => pair(f, at, levels - 1, a, stores),
-        Some(Token::String(from, to)) => atom_item(f, at, from, to, a, &mut stores.atoms),
+        Some(Token::Opening) => pair(f, at, levels - 1, a, bytes, starts, ends, firsts, rests),
+        Some(Token::String(from, to)) => atom_item(f, at, from, to, a, bytes, starts, ends),
     }
 }
 
@@ -102,25 +112,35 @@ fn pair(
     at: usize,
     levels: usize,
     a: &mut Allocator,
-    stores: &mut Stores,
+    bytes: &mut [u8],
+    starts: &mut [u32],
+    ends: &mut [u32],
+    firsts: &mut [u32],
+    rests: &mut [u32],
 ) -> Result<Loaded, Fault>
     requires { at < length f.now }
-    ensures value { loaded result a.new (lists_lent stores.new)
-        ≡ pair_item (item_of f.now levels) at a.old (lists_lent stores.old) }
-    ensures same { SameStores stores.old stores.new }
+    ensures { loaded result a.new (lists_in bytes.new starts.new ends.new firsts.new rests.new)
+        ≡ pair_item (item_of f.now levels) at a.old (lists_in bytes.old starts.old ends.old firsts.old rests.old) }
 {
-    let first = item(f, at + 1, levels, a, stores)?;
-    let rest = item(f, first.next, levels, a, stores)?;
-    pair_item(at, rest.next, first.node, rest.node, a, &mut stores.pairs)
+    let first = item(f, at + 1, levels, a, bytes, starts, ends, firsts, rests)?;
+    let rest = item(f, first.next, levels, a, bytes, starts, ends, firsts, rests)?;
+    pair_item(at, rest.next, first.node, rest.node, a, firsts, rests)
 }
 
 // The whole file as one item: bytes after the root are bad encoding.
-fn whole(a: &mut Allocator, stores: &mut Stores, f: &[u8]) -> Result<Loaded, Fault>
-    ensures value { loaded result a.new (lists_lent stores.new)
-        ≡ at_end (length f.now) (item_of f.now levels_of 0 a.old (lists_lent stores.old)) }
-    ensures same { SameStores stores.old stores.new }
+fn whole(
+    a: &mut Allocator,
+    bytes: &mut [u8],
+    starts: &mut [u32],
+    ends: &mut [u32],
+    firsts: &mut [u32],
+    rests: &mut [u32],
+    f: &[u8],
+) -> Result<Loaded, Fault>
+    ensures { loaded result a.new (lists_in bytes.new starts.new ends.new firsts.new rests.new)
+        ≡ at_end (length f.now) (item_of f.now levels_of 0 a.old (lists_in bytes.old starts.old ends.old firsts.old rests.old)) }
 {
-    let root = item(f, 0, prefix::LEVELS, a, stores)?;
+    let root = item(f, 0, prefix::LEVELS, a, bytes, starts, ends, firsts, rests)?;
     if root.next == f.len() {
         Ok(root)
     } else {
@@ -130,23 +150,30 @@ fn whole(a: &mut Allocator, stores: &mut Stores, f: &[u8]) -> Result<Loaded, Fau
 
 // Reads a whole program file: its root, or the first fault in file order with its place. A refusal gives the record back as it was given.
 #[tactic(auto, unfolding(rules::specs::Load::load))]
-pub fn load(a: &mut Allocator, stores: &mut Stores, f: &[u8]) -> Result<Loaded, Fault>
-    ensures value { loaded result a.new (lists_lent stores.new)
-        ≡ load_of f.now a.old (lists_lent stores.old) }
-    ensures same { SameStores stores.old stores.new }
+pub fn load(
+    a: &mut Allocator,
+    bytes: &mut [u8],
+    starts: &mut [u32],
+    ends: &mut [u32],
+    firsts: &mut [u32],
+    rests: &mut [u32],
+    f: &[u8],
+) -> Result<Loaded, Fault>
+    ensures { loaded result a.new (lists_in bytes.new starts.new ends.new firsts.new rests.new)
+        ≡ load_of f.now a.old (lists_in bytes.old starts.old ends.old firsts.old rests.old) }
 {
     if !sound::lists_sound(
         a,
-        stores.atoms.bytes.len(),
-        stores.atoms.starts.len(),
-        stores.atoms.ends.len(),
-        stores.pairs.firsts.len(),
-        stores.pairs.rests.len(),
+        bytes.len(),
+        starts.len(),
+        ends.len(),
+        firsts.len(),
+        rests.len(),
     ) {
         return Err(fault(Code::Unsound, 0));
     }
     let before = *a;
-    let root = whole(a, stores, f);
+    let root = whole(a, bytes, starts, ends, firsts, rests, f);
     if root.is_err() {
         *a = before;
     }
