@@ -6,7 +6,7 @@ use Rattle.rules.specs.declared.AtomSlots as Lent
 use Rattle.rules.specs.declared.PairSlots as Pairs
 use Rattle.rules.specs.declared.Slices.{Slices}
 use Rattle.rules.specs.declared.AtomStore.{AtomStore}
-use Rattle.rules.specs.declared.PairStore as Lent_pairs
+use Rattle.rules.specs.declared.PairStore as LentPairs
 use Rattle.rules.specs.declared.Stores.{Stores}
 use Rattle.rules.specs.State.{AtomSlots, atom_slots, PairSlots, pair_slots, Lists, lists, Store, store, PairStore, pair_store, together, Slots, slots}
 
@@ -56,7 +56,7 @@ slots_in starts ends firsts rests = slots (atom_slots_in starts ends) (pair_slot
 abbrev pub store_lent : AtomStore → Store
 store_lent s = store_in s.bytes.now s.starts.now s.ends.now
 
-abbrev pub pair_store_lent : Lent_pairs.PairStore → PairStore
+abbrev pub pair_store_lent : LentPairs.PairStore → PairStore
 pair_store_lent s = pair_store_in s.firsts.now s.rests.now
 
 abbrev pub lists_lent : Stores → Lists
@@ -66,11 +66,8 @@ lists_lent s = together (store_lent s.atoms) (pair_store_lent s.pairs)
 abbrev pub SameStore : AtomStore → AtomStore → Type 0
 SameStore s t = (t.bytes.ghost_name ≡ s.bytes.ghost_name) × (t.starts.ghost_name ≡ s.starts.ghost_name) × (t.ends.ghost_name ≡ s.ends.ghost_name)
 
-abbrev pub SamePairStore : Lent_pairs.PairStore → Lent_pairs.PairStore → Type 0
+abbrev pub SamePairStore : LentPairs.PairStore → LentPairs.PairStore → Type 0
 SamePairStore s t = (t.firsts.ghost_name ≡ s.firsts.ghost_name) × (t.rests.ghost_name ≡ s.rests.ghost_name)
-
-abbrev pub SameStores : Stores → Stores → Type 0
-SameStores s t = SameStore s.atoms t.atoms × SamePairStore s.pairs t.pairs
 
 -- ---- what a helper asks of its caller: the used atoms, or pairs, are within the lent slots
 
