@@ -5,7 +5,7 @@ ghost use Rattle.rules.specs.Creates.{new_concat};
 ghost use Rattle.clvm_allocator.specs.Answers.{given, crossed, answer_c};
 
 use super::answers::CAnswer;
-use rules::Allocator;
+use rules::{Allocator, AtomStore};
 
 pub fn clvm_new_concat(
     a: &mut Allocator,
@@ -18,5 +18,10 @@ pub fn clvm_new_concat(
     ensures { given result a.new (store_in bytes.new starts.new ends.new)
         ≡ crossed answer_c (new_concat a.old new_size nodes.now (store_in bytes.old starts.old ends.old)) }
 {
-    concat::new_concat(a, bytes, starts, ends, new_size, nodes).into()
+    let mut store = AtomStore {
+        bytes,
+        starts,
+        ends,
+    };
+    concat::new_concat(a, &mut store, new_size, nodes).into()
 }

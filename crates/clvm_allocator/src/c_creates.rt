@@ -8,7 +8,7 @@ ghost use Rattle.clvm_allocator.specs.Answers.{given, crossed, answer_c, done_c}
 
 use super::answers::CAnswer;
 use creates::{atom, ghosts, pair, substr};
-use rules::Allocator;
+use rules::{Allocator, AtomStore, PairStore};
 
 pub fn clvm_new_atom(
     a: &mut Allocator,
@@ -20,7 +20,12 @@ pub fn clvm_new_atom(
     ensures { given result a.new (store_in bytes.new starts.new ends.new)
         ≡ crossed answer_c (new_atom a.old v.now (store_in bytes.old starts.old ends.old)) }
 {
-    atom::new_atom(a, bytes, starts, ends, v).into()
+    let mut store = AtomStore {
+        bytes,
+        starts,
+        ends,
+    };
+    atom::new_atom(a, &mut store, v).into()
 }
 
 pub fn clvm_new_small_number(a: &mut Allocator, v: u32) -> CAnswer
@@ -39,7 +44,12 @@ pub fn clvm_new_u64(
     ensures { given result a.new (store_in bytes.new starts.new ends.new)
         ≡ crossed answer_c (new_u64 a.old x (store_in bytes.old starts.old ends.old)) }
 {
-    atom::new_integer(a, bytes, starts, ends, x).into()
+    let mut store = AtomStore {
+        bytes,
+        starts,
+        ends,
+    };
+    atom::new_integer(a, &mut store, x).into()
 }
 
 pub fn clvm_new_i64(
@@ -52,7 +62,12 @@ pub fn clvm_new_i64(
     ensures { given result a.new (store_in bytes.new starts.new ends.new)
         ≡ crossed answer_c (new_i64 a.old x (store_in bytes.old starts.old ends.old)) }
 {
-    atom::new_integer(a, bytes, starts, ends, x).into()
+    let mut store = AtomStore {
+        bytes,
+        starts,
+        ends,
+    };
+    atom::new_integer(a, &mut store, x).into()
 }
 
 pub fn clvm_new_pair(
@@ -65,7 +80,8 @@ pub fn clvm_new_pair(
     ensures { given result a.new (pair_store_in firsts.new rests.new)
         ≡ crossed answer_c (new_pair a.old first rest (pair_store_in firsts.old rests.old)) }
 {
-    pair::new_pair(a, firsts, rests, first, rest).into()
+    let mut store = PairStore { firsts, rests };
+    pair::new_pair(a, &mut store, first, rest).into()
 }
 
 pub fn clvm_add_ghost_pair(a: &mut Allocator, amount: usize) -> CAnswer
@@ -98,5 +114,10 @@ pub fn clvm_new_substr(
     ensures { given result a.new (store_in bytes.new starts.new ends.new)
         ≡ crossed answer_c (new_substr a.old n start end (store_in bytes.old starts.old ends.old)) }
 {
-    substr::new_substr(a, bytes, starts, ends, n, start, end).into()
+    let mut store = AtomStore {
+        bytes,
+        starts,
+        ends,
+    };
+    substr::new_substr(a, &mut store, n, start, end).into()
 }

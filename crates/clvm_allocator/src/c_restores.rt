@@ -6,7 +6,7 @@ ghost use Rattle.rules.specs.Restores.{restore_plain, restore_transparent, maybe
 ghost use Rattle.clvm_allocator.specs.Answers.{given, crossed, done_c, restored_c};
 
 use super::answers::{CAnswer, CRestored};
-use rules::{Allocator, AtomSlots, Checkpoint, Counts, PairSlots};
+use rules::{Allocator, AtomSlots, AtomStore, Checkpoint, Counts, PairSlots};
 
 pub fn clvm_restore_checkpoint(
     a: &mut Allocator,
@@ -56,5 +56,10 @@ pub fn clvm_maybe_restore_with_node(
         (pair_store_in firsts.now rests.now)) }
 {
     let pairs = PairSlots { firsts, rests };
-    restores::maybe_restore_with_node(a, bytes, starts, ends, pairs, k, n).into()
+    let mut store = AtomStore {
+        bytes,
+        starts,
+        ends,
+    };
+    restores::maybe_restore_with_node(a, &mut store, pairs, k, n).into()
 }

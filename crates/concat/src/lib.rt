@@ -6,14 +6,14 @@ mod sizes;
 
 ghost use Rattle.std.specs.Prelude.{◌≡◌, List, [], ◌∷◌, ℕ, ◌+◌, ◌≤◌, ◌<◌, length};
 ghost use Rattle.rules.specs.State.{Store, store};
-ghost use Rattle.rules.specs.Lent.{atoms_of, store_in, AtomsWithin};
+ghost use Rattle.rules.specs.Lent.{atoms_of, store_lent, SameStore, AtomsWithin};
 ghost use Rattle.rules.specs.Creates.{concat_put, new_concat};
 ghost use Rattle.rules.specs.Paper.{made};
 ghost use Rattle.rules.proofs.Sound.{StoreLent};
 ghost use Rattle.concat.specs.Concat.{concat_all};
 
 use creates::atom;
-use rules::{Allocator, AtomSlots, Code, NIL, ObjectType, Refusal, need};
+use rules::{Allocator, AtomSlots, AtomStore, Code, NIL, ObjectType, Refusal, need};
 use state::{record, sound};
 
 // Nothing joined is nil, counted as if it had been allocated.
@@ -41,27 +41,23 @@ fn concat_one(a: &mut Allocator, atoms: AtomSlots, size: usize, n: u32) -> Resul
 #[tactic(auto, unfolding(rules::specs::Said::need, rules::specs::Creates::store_atom))]
 fn concat_all(
     a: &mut Allocator,
-    bytes: &mut [u8],
-    starts: &mut [u32],
-    ends: &mut [u32],
+    store: &mut AtomStore,
     size: usize,
     nodes: &[u32],
 ) -> Result<u32, Refusal>
-    requires lent { StoreLent a.old (length bytes.old) (length starts.old) (length ends.old) }
+    requires lent { StoreLent a.old (length store.old.bytes.now) (length store.old.starts.now) (length store.old.ends.now) }
     requires counts { (size ≤ 4294967295) × (a.old.used.atoms < 62500000) }
-    ensures { made result a.new (store_in bytes.new starts.new ends.new)
-        ≡ concat_all a.old size nodes.now (store_in bytes.old starts.old ends.old) }
+    ensures value { made result a.new (store_lent store.new) ≡ concat_all a.old size nodes.now (store_lent store.old) }
+    ensures same { SameStore store.old store.new }
 {
-    let atoms = AtomSlots { starts, ends };
-    sizes::measure(a, atoms, size, nodes)?;
-    need(
-        atom::store_room(a, size, bytes.len(), starts.len(), ends.len()),
-        Code::Full,
-        NIL,
-    )?;
+    sizes::measure(a, store.slots(), size, nodes)?;
+    need(atom::store_room(a, size, store), Code::Full, NIL)?;
     let from = a.used.bytes;
     let at = a.used.atoms;
-    copies::copy_terms(a, bytes, atoms, nodes);
+    let bytes = &mut *store.bytes;
+    let starts = &mut *store.starts;
+    let ends = &mut *store.ends;
+    copies::copy_terms(a, bytes, AtomSlots { starts, ends }, nodes);
     starts[at] = from as u32;
     ends[at] = (from + size) as u32;
     *a = record::used_atom(size, *a);
@@ -73,17 +69,15 @@ fn concat_all(
 #[tactic(auto, unfolding(rules::specs::Said::need, rules::specs::Creates::concat_tests))]
 pub fn new_concat(
     a: &mut Allocator,
-    bytes: &mut [u8],
-    starts: &mut [u32],
-    ends: &mut [u32],
+    store: &mut AtomStore,
     new_size: usize,
     nodes: &[u32],
 ) -> Result<u32, Refusal>
-    ensures { made result a.new (store_in bytes.new starts.new ends.new)
-        ≡ new_concat a.old new_size nodes.now (store_in bytes.old starts.old ends.old) }
+    ensures value { made result a.new (store_lent store.new) ≡ new_concat a.old new_size nodes.now (store_lent store.old) }
+    ensures same { SameStore store.old store.new }
 {
     need(
-        sound::bytes_sound(a, bytes.len(), starts.len(), ends.len()),
+        sound::bytes_sound(a, store.bytes.len(), store.starts.len(), store.ends.len()),
         Code::Unsound,
         NIL,
     )?;
@@ -99,7 +93,7 @@ pub fn new_concat(
     )?;
     match nodes {
         [] => concat_none(a, new_size),
-        [n] => concat_one(a, AtomSlots { starts, ends }, new_size, *n),
-        _ => concat_all(a, bytes, starts, ends, new_size, nodes),
+        [n] => concat_one(a, store.slots(), new_size, *n),
+        _ => concat_all(a, store, new_size, nodes),
     }
 }

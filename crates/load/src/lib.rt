@@ -6,13 +6,13 @@ mod token;
 ghost use Rattle.std.specs.Prelude.{◌≡◌, ◌≤◌, ◌<◌, Err, length};
 ghost use Rattle.rules.specs.Node.{nil};
 ghost use Rattle.rules.specs.Said.{refuses};
-ghost use Rattle.rules.specs.State.{Store, PairStore, together};
+ghost use Rattle.rules.specs.State.{Store, PairStore as Pairs, together};
 ghost use Rattle.rules.specs.Lent.{lists_in, store_in, pair_store_in};
 ghost use Rattle.rules.specs.Load.{reading, placed as placed_at, read_atom, read_pair, pair_item, item as item_of, at_end, levels_of, load as load_of};
 ghost use Rattle.rules.specs.Paper.{code_number, said_in, loaded};
 ghost use Rattle.load.specs.Readings.{Same, Always};
 
-use rules::{Allocator, Code, Fault, Loaded, NIL, Refusal};
+use rules::{Allocator, AtomStore, Code, Fault, Loaded, NIL, PairStore, Refusal};
 use state::sound;
 use token::Token;
 
@@ -49,10 +49,15 @@ fn atom_item(
     ends: &mut [u32],
 ) -> Result<Loaded, Fault>
     requires { (from ≤ to) × (to ≤ length f.now) }
-    ensures { Same (λ (p : PairStore). loaded result a.new (together (store_in bytes.new starts.new ends.new) p))
+    ensures { Same (λ (p : Pairs). loaded result a.new (together (store_in bytes.new starts.new ends.new) p))
         (λ p. read_atom f.now at from to a.old (together (store_in bytes.old starts.old ends.old) p)) }
 {
-    let made = creates::atom::new_atom(a, bytes, starts, ends, &f[from..to]);
+    let mut store = AtomStore {
+        bytes,
+        starts,
+        ends,
+    };
+    let made = creates::atom::new_atom(a, &mut store, &f[from..to]);
     placed(made, at, to)
 }
 
@@ -69,7 +74,8 @@ fn pair_item(
     ensures { Same (λ (s : Store). loaded result a.new (together s (pair_store_in firsts.new rests.new)))
         (λ s. read_pair at next first rest a.old (together s (pair_store_in firsts.old rests.old))) }
 {
-    let made = creates::pair::new_pair(a, firsts, rests, first, rest);
+    let mut store = PairStore { firsts, rests };
+    let made = creates::pair::new_pair(a, &mut store, first, rest);
     placed(made, at, next)
 }
 

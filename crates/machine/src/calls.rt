@@ -1,7 +1,7 @@
 // What a request calls: a creating call, a ghost call or a restore, on the record and the lists that it is lent.
 ghost use Rattle.std.specs.Prelude.{◌≡◌, length};
-ghost use Rattle.rules.specs.Lent.{store_in, lists_in, pairs_of};
-ghost use Rattle.rules.specs.State.{atom_slots, lists};
+ghost use Rattle.rules.specs.Lent.{store_lent, lists_lent, pair_store_of};
+ghost use Rattle.rules.specs.State.{together};
 ghost use Rattle.rules.specs.Paper.{said_by, option_paper, maybe_paper, made};
 ghost use Rattle.rules.specs.Creates.{new_concat};
 ghost use Rattle.rules.specs.Whole.{whole, call, restore_to};
@@ -12,7 +12,7 @@ ghost use Rattle.machine.specs.Machine.{state_in};
 use creates::{atom, ghosts, pair, substr};
 use request::nodes::Nodes;
 use request::{Making, Way, fields};
-use rules::{Allocator, AtomSlots, Checkpoint, MaybeRestore, PairSlots, Refusal};
+use rules::{Allocator, AtomStore, Checkpoint, MaybeRestore, PairSlots, Refusal, Stores};
 
 // Room for the nodes of the longest payload.
 fn node_buffer() -> [u32; 16384]
@@ -24,42 +24,32 @@ fn node_buffer() -> [u32; 16384]
 // The nodes of a concat, as numbers.
 fn new_concat(
     a: &mut Allocator,
-    bytes: &mut [u8],
-    starts: &mut [u32],
-    ends: &mut [u32],
+    store: &mut AtomStore,
     size: usize,
     nodes: Nodes,
 ) -> Result<u32, Refusal>
-    ensures { made result a.new (store_in bytes.new starts.new ends.new)
-        ≡ new_concat a.old size (u32s nodes.entry.bytes.now) (store_in bytes.old starts.old ends.old) }
+    ensures { made result a.new (store_lent store.new)
+        ≡ new_concat a.old size (u32s nodes.entry.bytes.now) (store_lent store.old) }
 {
     let mut numbers = node_buffer();
     let n = fields::put_u32s(&mut numbers, nodes.bytes);
-    concat::new_concat(a, bytes, starts, ends, size, &numbers[..n])
+    concat::new_concat(a, store, size, &numbers[..n])
 }
 
 // The node that a creating call makes; a ghost call makes none.
-pub fn make(
-    a: &mut Allocator,
-    bytes: &mut [u8],
-    starts: &mut [u32],
-    ends: &mut [u32],
-    firsts: &mut [u32],
-    rests: &mut [u32],
-    making: Making,
-) -> Result<Option<u32>, Refusal>
-    ensures { whole (said_by option_paper result) a.new (lists_in bytes.new starts.new ends.new firsts.new rests.new)
+pub fn make(a: &mut Allocator, stores: &mut Stores, making: Making) -> Result<Option<u32>, Refusal>
+    ensures { whole (said_by option_paper result) a.new (lists_lent stores.new)
         ≡ call (making_in making.entry)
-        (state_in a.old (lists_in bytes.old starts.old ends.old firsts.old rests.old)) }
+        (state_in a.old (lists_lent stores.old)) }
 {
     let node = match making {
-        Making::Atom(v) => atom::new_atom(a, bytes, starts, ends, v)?,
+        Making::Atom(v) => atom::new_atom(a, &mut stores.atoms, v)?,
         Making::SmallNumber(v) => atom::new_small_number(a, v)?,
-        Making::Pair(first, rest) => pair::new_pair(a, firsts, rests, first, rest)?,
+        Making::Pair(first, rest) => pair::new_pair(a, &mut stores.pairs, first, rest)?,
         Making::Substr(n, start, end) => {
-            substr::new_substr(a, bytes, starts, ends, n, start, end)?
+            substr::new_substr(a, &mut stores.atoms, n, start, end)?
         }
-        Making::Concat(size, nodes) => new_concat(a, bytes, starts, ends, size, nodes)?,
+        Making::Concat(size, nodes) => new_concat(a, &mut stores.atoms, size, nodes)?,
         Making::AddGhostPair(n) => return ghosts::add_ghost_pair(a, n).map(|_| None),
         Making::RemoveGhostPair(n) => return ghosts::remove_ghost_pair(a, n).map(|_| None),
         Making::AddGhostAtom(n) => return ghosts::add_ghost_atom(a, n).map(|_| None),
@@ -70,29 +60,23 @@ pub fn make(
 // A plain or transparent restore has no node to replace. The used counts of a checkpoint are the transparent one.
 pub fn go_back(
     a: &mut Allocator,
-    bytes: &mut [u8],
-    starts: &mut [u32],
-    ends: &mut [u32],
+    store: &mut AtomStore,
     pairs: PairSlots,
     way: Way,
     k: &Checkpoint,
 ) -> Result<MaybeRestore, Refusal>
-    ensures { whole (said_by maybe_paper result) a.new (lists bytes.new (atom_slots starts.new ends.new) (pairs_of pairs.entry))
-        ≡ restore_to (way_of way) k.now (state_in a.old (lists bytes.old (atom_slots starts.old ends.old) (pairs_of pairs.entry))) }
+    ensures { whole (said_by maybe_paper result) a.new (together (store_lent store.new) (pair_store_of pairs.entry))
+        ≡ restore_to (way_of way) k.now (state_in a.old (together (store_lent store.old) (pair_store_of pairs.entry))) }
 {
     match way {
         Way::Plainly => {
-            let atoms = AtomSlots { starts, ends };
-            restores::restore_checkpoint(a, atoms, pairs, k)?;
+            restores::restore_checkpoint(a, store.slots(), pairs, k)?;
             Ok(MaybeRestore::NoReplace)
         }
         Way::Transparently => {
-            let atoms = AtomSlots { starts, ends };
-            restores::restore_transparent_checkpoint(a, atoms, pairs, &k.used)?;
+            restores::restore_transparent_checkpoint(a, store.slots(), pairs, &k.used)?;
             Ok(MaybeRestore::NoReplace)
         }
-        Way::WithNode(n) => {
-            restores::maybe_restore_with_node(a, bytes, starts, ends, pairs, &k.used, n)
-        }
+        Way::WithNode(n) => { restores::maybe_restore_with_node(a, store, pairs, &k.used, n) }
     }
 }

@@ -6,16 +6,19 @@ mod calls;
 ghost use Rattle.std.specs.Prelude.{◌≡◌};
 ghost use Rattle.std.proofs.Math.Option.{none};
 ghost use Rattle.rules.specs.Said.{says, says_of};
-ghost use Rattle.rules.specs.State.{atom_slots, lists};
+ghost use Rattle.rules.specs.State.{together};
 ghost use Rattle.rules.specs.Record.{checkpoint};
-ghost use Rattle.rules.specs.Lent.{lists_in, pairs_of};
+ghost use Rattle.rules.specs.Lent.{store_lent, pair_store_of, lists_lent};
 ghost use Rattle.rules.specs.Paper.{said_by, option_paper, verdict_paper, maybe_paper};
 ghost use Rattle.request.specs.Request.{request_is, way_of, restoring};
 ghost use Rattle.machine.specs.Machine.{told_of, tells, fresh_machine, with_state, did_of, did_take, shown_by, did_restore, acted, act_of};
 ghost use Rattle.machine.specs.Sane.{Sane};
 
 use request::{Request, Way};
-use rules::{Allocator, Checkpoint, Code, Counts, MaybeRestore, NIL, PairSlots, Refusal, need};
+use rules::{
+    Allocator, AtomStore, Checkpoint, Code, Counts, MaybeRestore, NIL, PairSlots, Refusal, Stores,
+    need,
+};
 
 // The code of a bad record, which ends the run: the request program's own.
 pub const BAD_RECORD: usize = 16;
@@ -126,46 +129,34 @@ impl Machine {
     // Goes back to the checkpoint of a number. One that was not taken gives 11, before anything else.
     fn restore(
         &mut self,
-        bytes: &mut [u8],
-        starts: &mut [u32],
-        ends: &mut [u32],
+        store: &mut AtomStore,
         pairs: PairSlots,
         way: Way,
         i: usize,
     ) -> Result<Option<u32>, Refusal>
         requires { Sane self.old }
-        ensures { acted (did_of self.new (tells (said_by option_paper result))) (lists bytes.new (atom_slots starts.new ends.new) (pairs_of pairs.entry))
-            ≡ act_of self.old (lists bytes.old (atom_slots starts.old ends.old) (pairs_of pairs.entry)) (restoring (way_of way) i) }
+        ensures { acted (did_of self.new (tells (said_by option_paper result))) (together (store_lent store.new) (pair_store_of pairs.entry))
+            ≡ act_of self.old (together (store_lent store.old) (pair_store_of pairs.entry)) (restoring (way_of way) i) }
     {
         need(i < self.taken, Code::NotUsable, NIL)?;
         let k = self.checkpoints[i];
         let before = self.state;
-        let outcome = calls::go_back(&mut self.state, bytes, starts, ends, pairs, way, &k)?;
+        let outcome = calls::go_back(&mut self.state, store, pairs, way, &k)?;
         Ok(self.back(&k.used, way, before, outcome))
     }
 
     // What a request does.
-    pub fn act(
-        &mut self,
-        bytes: &mut [u8],
-        starts: &mut [u32],
-        ends: &mut [u32],
-        firsts: &mut [u32],
-        rests: &mut [u32],
-        request: Request,
-    ) -> Result<Option<u32>, Refusal>
+    pub fn act(&mut self, stores: &mut Stores, request: Request) -> Result<Option<u32>, Refusal>
         requires { Sane self.old }
-        ensures { acted (did_of self.new (tells (said_by option_paper result))) (lists_in bytes.new starts.new ends.new firsts.new rests.new)
-            ≡ act_of self.old (lists_in bytes.old starts.old ends.old firsts.old rests.old) (request_is request.entry) }
+        ensures { acted (did_of self.new (tells (said_by option_paper result))) (lists_lent stores.new)
+            ≡ act_of self.old (lists_lent stores.old) (request_is request.entry) }
     {
         match request {
-            Request::Make(making) => {
-                calls::make(&mut self.state, bytes, starts, ends, firsts, rests, making)
-            }
+            Request::Make(making) => { calls::make(&mut self.state, stores, making) }
             Request::TakeCheckpoint => self.take().map(|_| None),
             Request::Restore(way, i) => {
-                let pairs = PairSlots { firsts, rests };
-                self.restore(bytes, starts, ends, pairs, way, i)
+                let pairs = &stores.pairs;
+                self.restore(&mut stores.atoms, pairs.slots(), way, i)
             }
         }
     }

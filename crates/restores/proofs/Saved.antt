@@ -24,7 +24,7 @@ front src dst last len n e =
     ap (take len) e ∙ take_at src (drop (length src) dst) len n
 
 -- last is what a copy of the part from s to e left of the array
-saved_bytes : (s e : ℕ) (l dst last : List ℕ) → s ≤ e → e ≤ length l
+pub saved_bytes : (s e : ℕ) (l dst last : List ℕ) → s ≤ e → e ≤ length l
     → last ≡ take (e - s) (drop s l) ++ drop (length (take (e - s) (drop s l))) dst
     → take (e - s) last ≡ slice s e l
 saved_bytes s e l dst last h k q =
@@ -36,16 +36,15 @@ passed_on (says done) a s f n h = refl
 passed_on (refuses code node) a s f n h = let z : ◌≡◌ {A = ℕ} 0 1 = cc in absurd (omega arith)
 
 -- the saved bytes, put where new_atom's tests end, are what new_atom makes
-pub cloned_atom : (k : Counts) (a : Allocator) (s : Store) (start end : ℕ) (dst last : List ℕ) → Copyable k a s start end
-    → last ≡ take (end - start) (drop start s.bytes) ++ drop (length (take (end - start) (drop start s.bytes))) dst
+pub cloned_atom : (k : Counts) (a : Allocator) (s : Store) (start end : ℕ) (last : List ℕ) → Copyable k a s start end → take (end - start) last ≡ slice start end s.bytes
     → small_or (fits (take (end - start) last)) (end - start) (less_ghosts (end - start) (cut k a)) (take (end - start) last) s
     ≡ new_atom (less_ghosts (end - start) (cut k a)) (slice start end s.bytes) s
-cloned_atom k a s start end dst last p copied =
+cloned_atom k a s start end last p copied =
     let v = slice start end s.bytes in
     let less = less_ghosts (end - start) (cut k a) in
     let inside : end ≤ length s.bytes = omega (arith, p.inside, p.fit) in
     let put = passed_on (atom_tests less (length v) s) less s (λ d. atom_put (fits v) less v s) _ p.accepts in
-    ap (λ u. small_or (fits u) (end - start) less u s) (saved_bytes start end s.bytes dst last p.order inside copied)
+    ap (λ u. small_or (fits u) (end - start) less u s) copied
     ∙ ap (λ n. small_or (fits v) n less v s) (sym (length-slice start end s.bytes inside))
     ∙ sym put
 

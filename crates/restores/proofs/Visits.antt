@@ -1,15 +1,13 @@
 -- What node() tells of an argument that passed its tests: a buffer, or something that is not cloned. Assumes nothing.
-use Prim.Native.Nat.{ℕ, ◌≤◌}
-use mathlib.Core.Path.{◌≡◌, refl, sym, ap, ◌∙◌}
+use Prim.Native.Nat.{ℕ}
+use mathlib.Core.Path.{◌≡◌, refl, ap, ◌∙◌}
 use mathlib.Core.Bool.{true}
-use native.Mathlib.Omega.{arith}
 use Rattle.rules.specs.declared.Allocator.{Allocator}
-use Rattle.rules.specs.Said.{Said, says, refuses, need}
-use Rattle.rules.specs.State.{AtomSlots, PairSlots, slots_sound, pair_slot_sound, first_at, rest_at}
-use Rattle.rules.specs.Reads.{Arg, pair_arg, bytes_arg, small_arg, arg, buffer, children, children_of, visited, node}
+use Rattle.rules.specs.Said.{says, need}
+use Rattle.rules.specs.State.{AtomSlots, PairSlots, slots_sound, pair_slot_sound}
+use Rattle.rules.specs.Reads.{Arg, pair_arg, bytes_arg, small_arg, arg, children_of, visited, node}
 use Rattle.rules.specs.Restores.{abort, new_course}
 use Rattle.rules.proofs.Needs.{need_ind}
-use Rattle.rules.proofs.Args.{ArgIn, arg_in}
 use Rattle.restores.specs.Course.{visited_course}
 
 -- beside a sound record, node() is what its argument shows

@@ -4,9 +4,9 @@
 
 mod course;
 
-ghost use Rattle.std.specs.Prelude.{◌≡◌, List, ℕ, Ok, length};
-ghost use Rattle.rules.specs.State.{store};
-ghost use Rattle.rules.specs.Lent.{atom_slots_in, store_in, pair_store_of, slots_of};
+ghost use Rattle.std.specs.Prelude.{◌≡◌, ◌-◌, ◌≤◌, Ok, length, take};
+ghost use Rattle.std.proofs.Math.Seq.{slice};
+ghost use Rattle.rules.specs.Lent.{store_lent, SameStore, pair_store_of, slots_of};
 ghost use Rattle.rules.specs.Restores.{share as share_course, restore_plain, restore_transparent, restore_by, clone, maybe_restore};
 ghost use Rattle.rules.specs.Paper.{changed, restored};
 ghost use Rattle.restores.specs.Able.{Shareable, Copyable};
@@ -14,8 +14,8 @@ ghost use Rattle.restores.specs.Able.{Shareable, Copyable};
 use course::Course;
 use creates::atom;
 use rules::{
-    Allocator, AtomSlots, Checkpoint, Code, Counts, MaybeRestore, NIL, ObjectType, PairSlots,
-    Refusal, need,
+    Allocator, AtomSlots, AtomStore, Checkpoint, Code, Counts, MaybeRestore, NIL, ObjectType,
+    PairSlots, Refusal, need,
 };
 use state::{record, sound};
 
@@ -80,42 +80,49 @@ pub fn restore_checkpoint(
 // Restores, and gives the range a new slot.
 fn share(
     a: &mut Allocator,
-    starts: &mut [u32],
-    ends: &mut [u32],
+    store: &mut AtomStore,
     k: &Counts,
     start: usize,
     end: usize,
 ) -> MaybeRestore
-    requires { Shareable k.now a.old (length starts.old) (length ends.old) start end }
-    ensures { (b : List ℕ) → restored (Ok result) a.new (store b (atom_slots_in starts.new ends.new))
-        ≡ restore_by k.now a.old (store b (atom_slots_in starts.old ends.old)) (share_course start end) }
+    requires { Shareable k.now a.old (length store.old.starts.now) (length store.old.ends.now) start end }
+    ensures value { restored (Ok result) a.new (store_lent store.new) ≡ restore_by k.now a.old (store_lent store.old) (share_course start end) }
+    ensures same { SameStore store.old store.new }
 {
     let at = k.atoms;
-    starts[at] = start as u32;
-    ends[at] = end as u32;
+    store.starts[at] = start as u32;
+    store.ends[at] = end as u32;
     *a = record::used_atom(0, record::less_ghosts(0, record::cut(*k, *a)));
     MaybeRestore::Replace(node::of(ObjectType::Bytes, at as u32))
+}
+
+// The bytes from start to end, in front, to be kept over a restore.
+fn kept_bytes(bytes: &[u8], start: usize, end: usize) -> [u8; 48]
+    requires { (start ≤ end) × (end ≤ length bytes.now) × (end - start ≤ 48) }
+    ensures { take (end - start) result ≡ slice start end bytes.now }
+{
+    let mut saved = [0; 48];
+    octets::copy(&bytes[start..end], &mut saved);
+    saved
 }
 
 // Saves the bytes, restores, and makes an atom of them again: new_atom's tests were passed before, and are not made twice.
 fn copy_node(
     a: &mut Allocator,
-    bytes: &mut [u8],
-    starts: &mut [u32],
-    ends: &mut [u32],
+    store: &mut AtomStore,
     k: &Counts,
     start: usize,
     end: usize,
 ) -> Result<MaybeRestore, Refusal>
-    requires { Copyable k.now a.old (store_in bytes.old starts.old ends.old) start end }
-    ensures { restored result a.new (store_in bytes.new starts.new ends.new)
-        ≡ clone k.now start end a.old (store_in bytes.old starts.old ends.old) }
+    requires { Copyable k.now a.old (store_lent store.old) start end }
+    ensures value { restored result a.new (store_lent store.new) ≡ clone k.now start end a.old (store_lent store.old) }
+    ensures same { SameStore store.old store.new }
 {
     let len = end - start;
-    let mut saved = [0u8; 48];
-    octets::copy(&bytes[start..end], &mut saved);
+    let bytes = &mut *store.bytes;
+    let saved = kept_bytes(bytes, start, end);
     let mut less = record::less_ghosts(len, record::cut(*k, *a));
-    let n = atom::small_or(&mut less, bytes, starts, ends, &saved[..len], len)?;
+    let n = atom::small_or(&mut less, store, &saved[..len], len)?;
     *a = less;
     Ok(MaybeRestore::Replace(n))
 }
@@ -123,24 +130,24 @@ fn copy_node(
 // Tries to restore and to keep what a node shows: NoReplace, Replace with the node that stands for it, or Aborted.
 pub fn maybe_restore_with_node(
     a: &mut Allocator,
-    bytes: &mut [u8],
-    starts: &mut [u32],
-    ends: &mut [u32],
+    store: &mut AtomStore,
     pairs: PairSlots,
     k: &Counts,
     n: u32,
 ) -> Result<MaybeRestore, Refusal>
-    ensures { restored result a.new (store_in bytes.new starts.new ends.new)
-        ≡ maybe_restore k.now n a.old (store_in bytes.old starts.old ends.old) (pair_store_of pairs.entry) }
+    ensures value { restored result a.new (store_lent store.new) ≡ maybe_restore k.now n a.old (store_lent store.old) (pair_store_of pairs.entry) }
+    ensures same { SameStore store.old store.new }
 {
-    let atoms = AtomSlots { starts, ends };
-    match course::course_of(k, a, bytes, atoms, pairs, n)? {
+    let bytes = &mut *store.bytes;
+    let starts = &mut *store.starts;
+    let ends = &mut *store.ends;
+    match course::course_of(k, a, bytes, AtomSlots { starts, ends }, pairs, n)? {
         Course::Abort => Ok(MaybeRestore::Aborted),
         Course::Keep => {
             *a = record::cut(*k, *a);
             Ok(MaybeRestore::NoReplace)
         }
-        Course::Share(start, end) => Ok(share(a, starts, ends, k, start, end)),
-        Course::Copy(start, end) => copy_node(a, bytes, starts, ends, k, start, end),
+        Course::Share(start, end) => Ok(share(a, store, k, start, end)),
+        Course::Copy(start, end) => copy_node(a, store, k, start, end),
     }
 }

@@ -1,11 +1,14 @@
 -- What is lent to a call, by one name: the lists behind its references, as its contract speaks of them.
 -- `store_in bytes.old ..` is what a call finds there, `store_in bytes.new ..` what it leaves; what is lent to be read is `bytes.now`.
-use Rattle.std.specs.Prelude.{ℕ, ◌≤◌, List, length}
+use Rattle.std.specs.Prelude.{ℕ, ◌≡◌, ◌≤◌, List, length}
 use Rattle.rules.specs.declared.Allocator.{Allocator}
 use Rattle.rules.specs.declared.AtomSlots as Lent
 use Rattle.rules.specs.declared.PairSlots as Pairs
 use Rattle.rules.specs.declared.Slices.{Slices}
-use Rattle.rules.specs.State.{AtomSlots, atom_slots, PairSlots, pair_slots, Lists, lists, Store, store, PairStore, pair_store, Slots, slots}
+use Rattle.rules.specs.declared.AtomStore.{AtomStore}
+use Rattle.rules.specs.declared.PairStore as LentPairs
+use Rattle.rules.specs.declared.Stores.{Stores}
+use Rattle.rules.specs.State.{AtomSlots, atom_slots, PairSlots, pair_slots, Lists, lists, Store, store, PairStore, pair_store, together, Slots, slots}
 
 -- what a reference to a lent list leads to: the list
 abbrev pub Ref : Type 0
@@ -48,6 +51,23 @@ pair_store_of p = pair_store (pairs_of p)
 
 abbrev pub slots_in : Ref → Ref → Ref → Ref → Slots
 slots_in starts ends firsts rests = slots (atom_slots_in starts ends) (pair_slots_in firsts rests)
+
+-- the same of the structs by which such calls hand them on
+abbrev pub store_lent : AtomStore → Store
+store_lent s = store_in s.bytes.now s.starts.now s.ends.now
+
+abbrev pub pair_store_lent : LentPairs.PairStore → PairStore
+pair_store_lent s = pair_store_in s.firsts.now s.rests.now
+
+abbrev pub lists_lent : Stores → Lists
+lists_lent s = together (store_lent s.atoms) (pair_store_lent s.pairs)
+
+-- such a call writes into the lists that it was lent, and lends no others in their place: by this its caller knows what its own lists hold
+abbrev pub SameStore : AtomStore → AtomStore → Type 0
+SameStore s t = (t.bytes.ghost_name ≡ s.bytes.ghost_name) × (t.starts.ghost_name ≡ s.starts.ghost_name) × (t.ends.ghost_name ≡ s.ends.ghost_name)
+
+abbrev pub SamePairStore : LentPairs.PairStore → LentPairs.PairStore → Type 0
+SamePairStore s t = (t.firsts.ghost_name ≡ s.firsts.ghost_name) × (t.rests.ghost_name ≡ s.rests.ghost_name)
 
 -- ---- what a helper asks of its caller: the used atoms, or pairs, are within the lent slots
 

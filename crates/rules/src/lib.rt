@@ -44,6 +44,58 @@ pub struct Slices<'a> {
     pub pairs: PairSlots<'a>,
 }
 
+// The byte store and the atom slots, lent to be written.
+#[derive(Drop)]
+pub struct AtomStore<'a> {
+    pub bytes: &'a mut [u8],
+    pub starts: &'a mut [u32],
+    pub ends: &'a mut [u32],
+}
+
+impl AtomStore<'_> {
+    ghost use Rattle.std.specs.Prelude.{◌≡◌};
+    ghost use Rattle.rules.specs.Lent.{atoms_of, atom_slots_in};
+
+    // The slots, to be read.
+    pub fn slots(&self) -> AtomSlots<'_>
+        ensures { atoms_of result ≡ atom_slots_in self.now.starts.now self.now.ends.now }
+    {
+        AtomSlots {
+            starts: self.starts,
+            ends: self.ends,
+        }
+    }
+}
+
+// The pair slots, lent to be written.
+#[derive(Drop)]
+pub struct PairStore<'a> {
+    pub firsts: &'a mut [u32],
+    pub rests: &'a mut [u32],
+}
+
+impl PairStore<'_> {
+    ghost use Rattle.std.specs.Prelude.{◌≡◌};
+    ghost use Rattle.rules.specs.Lent.{pairs_of, pair_slots_in};
+
+    // The slots, to be read.
+    pub fn slots(&self) -> PairSlots<'_>
+        ensures { pairs_of result ≡ pair_slots_in self.now.firsts.now self.now.rests.now }
+    {
+        PairSlots {
+            firsts: self.firsts,
+            rests: self.rests,
+        }
+    }
+}
+
+// All five slices, lent to be written: two lifetimes, for either part is lent on alone.
+#[derive(Drop)]
+pub struct Stores<'a, 'b> {
+    pub atoms: AtomStore<'a>,
+    pub pairs: PairStore<'b>,
+}
+
 // A plain checkpoint. A transparent one is the used counts alone.
 #[repr(C)]
 #[derive(Clone, Copy, PartialEq, Eq)]

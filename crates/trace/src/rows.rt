@@ -1,6 +1,7 @@
 // All records of an input: their rows, and the text in one piece or in several.
 ghost use Rattle.std.specs.Prelude.{◌≡◌, ◌+◌, ◌*◌, ◌≤◌, ◌<◌, ◌++◌, length, IfOk};
-ghost use Rattle.rules.specs.Lent.{lists_in};
+ghost use Rattle.rules.specs.Small.{Octets};
+ghost use Rattle.rules.specs.Lent.{lists_in, lists_lent};
 ghost use Rattle.rules.proofs.Limits.{Limits};
 ghost use Rattle.text.specs.Page.{written, capacity};
 ghost use Rattle.text.specs.Text.{row_text};
@@ -11,6 +12,7 @@ ghost use Rattle.trace.specs.Run.{Advanced, RanFrom};
 
 use crate::step;
 use machine::{Machine, Told};
+use rules::{AtomStore, PairStore, Stores};
 use std::io::{Result, Write};
 use text::page::Page;
 
@@ -34,27 +36,18 @@ fn show(m: &mut Machine, told: Told, page: &mut Page)
 
 // The record at the front of the rest of the input, and its row onto the page; answers the record's length, or nothing where a bad one
 // ended the run.
-fn advance(
-    m: &mut Machine,
-    bytes: &mut [u8],
-    starts: &mut [u32],
-    ends: &mut [u32],
-    firsts: &mut [u32],
-    rests: &mut [u32],
-    rest: &[u8],
-    page: &mut Page,
-) -> Option<usize>
-    requires ready { Ready m.old (lists_in bytes.old starts.old ends.old firsts.old rests.old) }
+fn advance(m: &mut Machine, stores: &mut Stores, rest: &[u8], page: &mut Page) -> Option<usize>
+    requires ready { Ready m.old (lists_lent stores.old) }
     requires bounds { (m.old.shown < 536870912) × (0 < length rest.now) × (length (written page.old) + 126 ≤ capacity page.old) }
     ensures { Advanced
-        m.old (lists_in bytes.old starts.old ends.old firsts.old rests.old) rest.now page.old
-        m.new (lists_in bytes.new starts.new ends.new firsts.new rests.new) page.new result }
+        m.old (lists_lent stores.old) rest.now page.old
+        m.new (lists_lent stores.new) page.new result }
 {
     let Some(asked) = request::read(rest) else {
         show(m, machine::bad(), page);
         return None;
     };
-    let answer = m.act(bytes, starts, ends, firsts, rests, asked.request);
+    let answer = m.act(stores, asked.request);
     let told = Told::from(answer);
     show(m, told, page);
     Some(asked.size)
@@ -65,27 +58,23 @@ fn advance(
 // once the last line is written.
 pub fn run(
     m: &mut Machine,
-    bytes: &mut [u8],
-    starts: &mut [u32],
-    ends: &mut [u32],
-    firsts: &mut [u32],
-    rests: &mut [u32],
+    stores: &mut Stores,
     input: &[u8],
     at0: usize,
     page: &mut Page,
 ) -> Option<usize>
-    requires ready { Ready m.old (lists_in bytes.old starts.old ends.old firsts.old rests.old) }
+    requires ready { Ready m.old (lists_lent stores.old) }
     requires bounds { (4 * m.old.shown ≤ at0) × (at0 ≤ length input.now) × (length input.now ≤ 1048576) × (length (written page.old) + 46 ≤ capacity page.old) }
     ensures { RanFrom
-        m.old (lists_in bytes.old starts.old ends.old firsts.old rests.old) input.now at0 page.old
-        m.new (lists_in bytes.new starts.new ends.new firsts.new rests.new) page.new result }
+        m.old (lists_lent stores.old) input.now at0 page.old
+        m.new (lists_lent stores.new) page.new result }
 {
     let mut at = at0;
     while at < input.len() {
         if page.room() < ROOM {
             return Some(at);
         }
-        let Some(size) = advance(m, bytes, starts, ends, firsts, rests, &input[at..], page) else {
+        let Some(size) = advance(m, stores, &input[at..], page) else {
             text::put_end(page, m.shown, m.released);
             return None;
         };
@@ -94,6 +83,11 @@ pub fn run(
     text::put_end(page, m.shown, m.released);
     None
 }
+
+// Each item of a slice of bytes is one: said of a slice by itself, which a struct that holds it does not tell.
+fn are_octets(bytes: &[u8])
+    ensures { Octets bytes.now }
+{}
 
 // Writes the whole text of an input, a page at a time; answers how many bytes that were, or why a write failed: then a part of the text may
 // have been written, and of what is lent nothing is said.
@@ -120,12 +114,19 @@ pub fn print<W: Write>(
     }
     text::put_head(&mut page);
     let mut m = Machine::new();
+    are_octets(bytes);
+    let mut stores = Stores {
+        atoms: AtomStore {
+            bytes,
+            starts,
+            ends,
+        },
+        pairs: PairStore { firsts, rests },
+    };
     let mut at = 0;
     let mut sent = 0;
     loop {
-        let next = run(
-            &mut m, bytes, starts, ends, firsts, rests, input, at, &mut page,
-        );
+        let next = run(&mut m, &mut stores, input, at, &mut page);
         let piece = page.text();
         to.write_all(piece)?;
         sent += piece.len();

@@ -17,8 +17,8 @@ slice_bounds-small_or-end c =
     let e : length c.put_be.new.buf ≡ 4 = rw c.put_be.ensures (simp (length-append, length-be)) in
     omega (arith, small-length c.args.v c.requires.part.0, c.len_for_value-from.ensures)
 
-pub returns : goal.returns
-returns c =
+pub returns-clause-value : goal.returns-clause-value
+returns-clause-value c =
     let s = c.args in
     let p = c.requires.part in
-    simp (c.small_or.ensures, c.put_be.ensures, c.len_for_value-from.ensures, small-part s.v s.start s.end [] (small-length s.v p.0) p.1 p.2)
+    simp (c.small_or.ensures.value, c.put_be.ensures, c.len_for_value-from.ensures, small-part s.v s.start s.end [] (small-length s.v p.0) p.1 p.2)

@@ -14,5 +14,5 @@ returns-then-input-gt-LONGEST g c =
 
 pub loop-sent-init : goal.loop-sent-init
 loop-sent-init g c =
-    sending_first _ c.args.input.now c.put_head.new.page c.new-m.result (λ i. omega (arith, c.type_inv.bytes i)) (omega arith) (omega arith) c.new-m.ensures
+    sending_first _ c.args.input.now c.put_head.new.page c.new-m.result c.are_octets.ensures (omega arith) (omega arith) c.new-m.ensures
     (c.put_head.ensures.text ∙ ap (λ (x : List ℕ). x ++ head_text) c.new-page.ensures.text)
