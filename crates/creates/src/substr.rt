@@ -73,12 +73,9 @@ fn part_of_small(
         ≡ small_or (fits (slice start end (small_bytes v))) 0 a.old (slice start end (small_bytes v)) (store_lent store.old) }
     ensures same { SameStore store.old store.new }
 {
-    let mut buf = [0u8; 4];
-    node::put_be(&mut buf, v as u64, 4);
-    let from = 4 - node::len_for_value(v);
-    let i = from + start;
-    let j = from + end;
-    super::atom::small_or(a, store, &buf[i..j], 0)
+    let (buf, from) = node::small_bytes(v);
+    let own = &buf[from..];
+    super::atom::small_or(a, store, &own[start..end], 0)
 }
 
 // A new atom that is the part of an atom from start up to end: 1 unsound, 3 too many atoms, then the atom and the bounds.

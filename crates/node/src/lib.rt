@@ -1,10 +1,10 @@
 // The bits of a node, small atoms, and the big-endian bytes of a number.
 #![tactic(auto, unfolding(rules::specs::Reads::object_type_of, rules::specs::Node::view, rules::specs::Node::view_of))]
 
-ghost use Rattle.std.specs.Prelude.{IfSome, IfErr, ◌≡◌, ◌∷◌, ◌++◌, ◌≤◌, ◌<◌, length, drop};
+ghost use Rattle.std.specs.Prelude.{IfSome, IfErr, ◌≡◌, ◌∷◌, ◌++◌, ◌≤◌, ◌<◌, length, drop, take, ◌-◌};
 ghost use Rattle.rules.specs.Node.{view as viewed, node_of};
 ghost use Rattle.rules.proofs.Args.{Low};
-ghost use Rattle.rules.specs.Small.{big as big_of, be, fits, len_for};
+ghost use Rattle.rules.specs.Small.{big as big_of, be, fits, len_for, small_bytes as own_bytes};
 ghost use Rattle.rules.specs.Reads.{kind_number, object_type, node_index, is_atom, is_pair};
 ghost use Rattle.rules.specs.Paper.{said_in, said_by, view_in, kind_paper, option_paper};
 
@@ -167,4 +167,15 @@ pub fn put_be(buf: &mut [u8], v: u64, n: usize)
         buf[i] = (rest % 256) as u8;
         rest /= 256;
     }
+}
+
+// A small atom's bytes: they are the last of the value's four, from the place beside them.
+pub fn small_bytes(v: u32) -> ([u8; 4], usize)
+    requires { v < 67108864 }
+    ensures bytes { take (4 - result.1) (drop result.1 result.0) ≡ own_bytes v }
+    ensures within { result.1 ≤ 4 }
+{
+    let mut buf = [0u8; 4];
+    put_be(&mut buf, v as u64, 4);
+    (buf, 4 - len_for_value(v))
 }

@@ -52,23 +52,12 @@ pub fn put_form(v: &[u8], file: &mut [u8], at: usize) -> usize
     from + len
 }
 
-// A small atom's bytes: they are the last of the value's four, from the place beside them.
-fn small_bytes(v: u32) -> ([u8; 4], usize)
-    requires { v < 67108864 }
-    ensures bytes { take (4 - result.1) (drop result.1 result.0) ≡ small_bytes v }
-    ensures within { result.1 ≤ 4 }
-{
-    let mut buf = [0u8; 4];
-    node::put_be(&mut buf, v as u64, 4);
-    (buf, 4 - node::len_for_value(v))
-}
-
 // How many bytes the form of a small atom takes.
 pub fn small_len(v: u32) -> usize
     requires { v < 67108864 }
     ensures { result ≡ length (shortest_atom (small_bytes v)) }
 {
-    let (buf, from) = small_bytes(v);
+    let (buf, from) = node::small_bytes(v);
     form_len(&buf[from..])
 }
 
@@ -78,6 +67,6 @@ pub fn put_small(v: u32, file: &mut [u8], at: usize) -> usize
     ensures written { file.new ≡ over file.old at (shortest_atom (small_bytes v)) }
     ensures end { result ≡ at + length (shortest_atom (small_bytes v)) }
 {
-    let (buf, from) = small_bytes(v);
+    let (buf, from) = node::small_bytes(v);
     put_form(&buf[from..], file, at)
 }

@@ -1,7 +1,7 @@
--- `save::atom::small_bytes` meets its contract.
+-- `node::small_bytes` meets its contract.
 use native.Mathlib.Omega.{arith}
 use Rattle.rules.proofs.Smalls.{small-length, last-part}
-use Rattle.save.proofs.atom.small_bytes.Goals as goal
+use Rattle.node.proofs.small_bytes.Goals as goal
 
 pub overflow_sub-result : goal.overflow_sub-result
 overflow_sub-result c = omega (arith, small-length _ c.requires, c.len_for_value.ensures)
