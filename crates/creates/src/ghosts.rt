@@ -1,6 +1,4 @@
 // Ghosts: atoms and pairs that are counted and not stored.
-#![tactic(auto, unfolding(rules::specs::Said::need, rules::specs::Creates::add_ghost_pair, rules::specs::Creates::remove_ghost_pair, rules::specs::Creates::add_ghost_atom))]
-
 ghost use Rattle.std.specs.Prelude.{◌≡◌};
 ghost use Rattle.rules.specs.Creates.{add_ghost_pair, remove_ghost_pair, add_ghost_atom};
 ghost use Rattle.rules.specs.Paper.{changed};
@@ -9,6 +7,7 @@ use rules::{Allocator, Code, NIL, Refusal, need};
 use state::{record, sound};
 
 // Counts pairs that a caller keeps elsewhere: 1 unsound, 4 too many pairs.
+#[tactic(auto, unfolding(rules::specs::Said::need, rules::specs::Creates::add_ghost_pair))]
 pub fn add_ghost_pair(a: &mut Allocator, amount: usize) -> Result<(), Refusal>
     ensures { changed result a.new ≡ add_ghost_pair a.old amount }
 {
@@ -20,6 +19,7 @@ pub fn add_ghost_pair(a: &mut Allocator, amount: usize) -> Result<(), Refusal>
 }
 
 // Takes such pairs back, when they are made after all: 1 unsound, 14 too few ghosts.
+#[tactic(auto, unfolding(rules::specs::Said::need, rules::specs::Creates::remove_ghost_pair))]
 pub fn remove_ghost_pair(a: &mut Allocator, amount: usize) -> Result<(), Refusal>
     ensures { changed result a.new ≡ remove_ghost_pair a.old amount }
 {
@@ -30,6 +30,7 @@ pub fn remove_ghost_pair(a: &mut Allocator, amount: usize) -> Result<(), Refusal
 }
 
 // Counts atoms that are not stored: 1 unsound, 3 too many atoms.
+#[tactic(auto, unfolding(rules::specs::Said::need, rules::specs::Creates::add_ghost_atom))]
 pub fn add_ghost_atom(a: &mut Allocator, amount: usize) -> Result<(), Refusal>
     ensures { changed result a.new ≡ add_ghost_atom a.old amount }
 {

@@ -4,6 +4,8 @@ use Rattle.std.proofs.Math.Option as math
 use Rattle.rules.specs.declared.Counts.{Counts}
 use Rattle.rules.specs.declared.Allocator.{Allocator}
 use Rattle.rules.specs.declared.Checkpoint.{Checkpoint}
+use Rattle.rules.specs.declared.Stores.{Stores}
+use Rattle.rules.specs.Lent.{SameStore, SamePairStore}
 use Rattle.rules.specs.Node.{nil}
 use Rattle.rules.specs.Said.{Said, says, refuses}
 use Rattle.rules.specs.State.{Lists, counts}
@@ -57,6 +59,10 @@ state_in a l = record { rec = a; lists = l }
 
 abbrev pub state_of : Machine → Lists → St
 state_of m l = state_in m.state l
+
+-- the structs still hold the caller's own slices
+abbrev pub SameStores : Stores → Stores → Type 0
+SameStores s t = SameStore s.atoms t.atoms × SamePairStore s.pairs t.pairs
 
 -- ---- the row's code and node
 

@@ -1,13 +1,13 @@
 // What a request calls: a creating call, a ghost call or a restore, on the record and the lists that it is lent.
 ghost use Rattle.std.specs.Prelude.{◌≡◌, length};
-ghost use Rattle.rules.specs.Lent.{store_lent, lists_lent, pair_store_of};
+ghost use Rattle.rules.specs.Lent.{store_lent, lists_lent, pair_store_of, SameStore};
 ghost use Rattle.rules.specs.State.{together};
 ghost use Rattle.rules.specs.Paper.{said_by, option_paper, maybe_paper, made};
 ghost use Rattle.rules.specs.Creates.{new_concat};
 ghost use Rattle.rules.specs.Whole.{whole, call, restore_to};
 ghost use Rattle.request.specs.Bytes.{u32s};
 ghost use Rattle.request.specs.Request.{making_in, way_of};
-ghost use Rattle.machine.specs.Machine.{state_in};
+ghost use Rattle.machine.specs.Machine.{state_in, SameStores};
 
 use creates::{atom, ghosts, pair, substr};
 use request::nodes::Nodes;
@@ -28,8 +28,9 @@ fn new_concat(
     size: usize,
     nodes: Nodes,
 ) -> Result<u32, Refusal>
-    ensures { made result a.new (store_lent store.new)
+    ensures value { made result a.new (store_lent store.new)
         ≡ new_concat a.old size (u32s nodes.entry.bytes.now) (store_lent store.old) }
+    ensures same { SameStore store.old store.new }
 {
     let mut numbers = node_buffer();
     let n = fields::put_u32s(&mut numbers, nodes.bytes);
@@ -38,9 +39,10 @@ fn new_concat(
 
 // The node that a creating call makes; a ghost call makes none.
 pub fn make(a: &mut Allocator, stores: &mut Stores, making: Making) -> Result<Option<u32>, Refusal>
-    ensures { whole (said_by option_paper result) a.new (lists_lent stores.new)
+    ensures value { whole (said_by option_paper result) a.new (lists_lent stores.new)
         ≡ call (making_in making.entry)
         (state_in a.old (lists_lent stores.old)) }
+    ensures same { SameStores stores.old stores.new }
 {
     let node = match making {
         Making::Atom(v) => atom::new_atom(a, &mut stores.atoms, v)?,
@@ -65,8 +67,9 @@ pub fn go_back(
     way: Way,
     k: &Checkpoint,
 ) -> Result<MaybeRestore, Refusal>
-    ensures { whole (said_by maybe_paper result) a.new (together (store_lent store.new) (pair_store_of pairs.entry))
+    ensures value { whole (said_by maybe_paper result) a.new (together (store_lent store.new) (pair_store_of pairs.entry))
         ≡ restore_to (way_of way) k.now (state_in a.old (together (store_lent store.old) (pair_store_of pairs.entry))) }
+    ensures same { SameStore store.old store.new }
 {
     match way {
         Way::Plainly => {

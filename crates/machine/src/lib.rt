@@ -8,10 +8,10 @@ ghost use Rattle.std.proofs.Math.Option.{none};
 ghost use Rattle.rules.specs.Said.{says, says_of};
 ghost use Rattle.rules.specs.State.{together};
 ghost use Rattle.rules.specs.Record.{checkpoint};
-ghost use Rattle.rules.specs.Lent.{store_lent, pair_store_of, lists_lent};
+ghost use Rattle.rules.specs.Lent.{store_lent, pair_store_of, lists_lent, SameStore};
 ghost use Rattle.rules.specs.Paper.{said_by, option_paper, verdict_paper, maybe_paper};
 ghost use Rattle.request.specs.Request.{request_is, way_of, restoring};
-ghost use Rattle.machine.specs.Machine.{told_of, tells, fresh_machine, with_state, did_of, did_take, shown_by, did_restore, acted, act_of};
+ghost use Rattle.machine.specs.Machine.{told_of, tells, fresh_machine, with_state, did_of, did_take, shown_by, did_restore, acted, act_of, SameStores};
 ghost use Rattle.machine.specs.Sane.{Sane};
 
 use request::{Request, Way};
@@ -135,8 +135,9 @@ impl Machine {
         i: usize,
     ) -> Result<Option<u32>, Refusal>
         requires { Sane self.old }
-        ensures { acted (did_of self.new (tells (said_by option_paper result))) (together (store_lent store.new) (pair_store_of pairs.entry))
+        ensures value { acted (did_of self.new (tells (said_by option_paper result))) (together (store_lent store.new) (pair_store_of pairs.entry))
             ≡ act_of self.old (together (store_lent store.old) (pair_store_of pairs.entry)) (restoring (way_of way) i) }
+        ensures same { SameStore store.old store.new }
     {
         need(i < self.taken, Code::NotUsable, NIL)?;
         let k = self.checkpoints[i];
@@ -148,8 +149,9 @@ impl Machine {
     // What a request does.
     pub fn act(&mut self, stores: &mut Stores, request: Request) -> Result<Option<u32>, Refusal>
         requires { Sane self.old }
-        ensures { acted (did_of self.new (tells (said_by option_paper result))) (lists_lent stores.new)
+        ensures value { acted (did_of self.new (tells (said_by option_paper result))) (lists_lent stores.new)
             ≡ act_of self.old (lists_lent stores.old) (request_is request.entry) }
+        ensures same { SameStores stores.old stores.new }
     {
         match request {
             Request::Make(making) => { calls::make(&mut self.state, stores, making) }

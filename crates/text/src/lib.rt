@@ -4,7 +4,7 @@
 pub mod page;
 
 ghost use Rattle.std.specs.Prelude.{◌≡◌, ◌+◌, ◌++◌, ◌≤◌, length};
-ghost use Rattle.text.specs.Page.{written, capacity};
+ghost use Rattle.text.specs.Page.{written, capacity, SamePage};
 ghost use Rattle.text.specs.Text.{row_text, node_text, end_text, head_text, long_text};
 
 use page::Page;
@@ -25,6 +25,7 @@ fn put_node(page: &mut Page, node: Option<u32>)
     requires { length (written page.old) + 21 ≤ capacity page.old }
     ensures text { written page.new ≡ written page.old ++ node_text node }
     ensures capacity { capacity page.new ≡ capacity page.old }
+    ensures same { SamePage page.old page.new }
     ensures bound { length (written page.new) ≤ length (written page.old) + 21 }
 {
     match node {
@@ -38,6 +39,7 @@ pub fn put_row(page: &mut Page, row: Row)
     requires { length (written page.old) + 126 ≤ capacity page.old }
     ensures text { written page.new ≡ written page.old ++ row_text row }
     ensures capacity { capacity page.new ≡ capacity page.old }
+    ensures same { SamePage page.old page.new }
     ensures bound { length (written page.new) ≤ length (written page.old) + 126 }
 {
     page.put_number(row.n, b' ');
@@ -53,6 +55,7 @@ pub fn put_head(page: &mut Page)
     requires { length (written page.old) + 29 ≤ capacity page.old }
     ensures text { written page.new ≡ written page.old ++ head_text }
     ensures capacity { capacity page.new ≡ capacity page.old }
+    ensures same { SamePage page.old page.new }
 {
     page.put(b"n code node atoms pairs heap\n");
 }
@@ -62,6 +65,7 @@ pub fn put_end(page: &mut Page, shown: usize, released: usize)
     requires { length (written page.old) + 46 ≤ capacity page.old }
     ensures text { written page.new ≡ written page.old ++ end_text shown released }
     ensures capacity { capacity page.new ≡ capacity page.old }
+    ensures same { SamePage page.old page.new }
     ensures bound { length (written page.new) ≤ length (written page.old) + 46 }
 {
     page.put(b"end ");
@@ -74,6 +78,7 @@ pub fn put_long(page: &mut Page)
     requires { length (written page.old) + 9 ≤ capacity page.old }
     ensures text { written page.new ≡ written page.old ++ long_text }
     ensures capacity { capacity page.new ≡ capacity page.old }
+    ensures same { SamePage page.old page.new }
 {
     page.put(b"too long\n");
 }

@@ -11,13 +11,14 @@ pub struct Page<'a> {
 
 impl<'a> Page<'a> {
     ghost use Rattle.std.specs.Prelude.{◌≡◌, ◌+◌, ◌++◌, ◌∷◌, []};
-    ghost use Rattle.text.specs.Page.{written, capacity};
+    ghost use Rattle.text.specs.Page.{written, capacity, SamePage};
     ghost use Rattle.text.specs.Text.{number_text};
 
     // Nothing is filled yet.
     pub fn new(buf: &'a mut [u8]) -> Page<'a>
         ensures text { written result ≡ [] }
         ensures capacity { capacity result ≡ length buf.old }
+        ensures same { result.buf.ghost_name ≡ buf.entry.ghost_name }
     {
         Page { buf, at: 0 }
     }
@@ -40,6 +41,7 @@ impl<'a> Page<'a> {
     pub fn clear(&mut self)
         ensures text { written self.new ≡ [] }
         ensures capacity { capacity self.new ≡ capacity self.old }
+        ensures same { SamePage self.old self.new }
     {
         self.at = 0;
     }
@@ -49,6 +51,7 @@ impl<'a> Page<'a> {
         requires { length (written self.old) + length s.now ≤ capacity self.old }
         ensures text { written self.new ≡ written self.old ++ s.now }
         ensures capacity { capacity self.new ≡ capacity self.old }
+        ensures same { SamePage self.old self.new }
     {
         octets::copy(s, &mut self.buf[self.at..]);
         self.at += s.len();
@@ -59,6 +62,7 @@ impl<'a> Page<'a> {
         requires { length (written self.old) + 21 ≤ capacity self.old }
         ensures text { written self.new ≡ written self.old ++ number_text n last }
         ensures capacity { capacity self.new ≡ capacity self.old }
+        ensures same { SamePage self.old self.new }
         ensures bound { length (written self.new) ≤ length (written self.old) + 21 }
     {
         let mut digits = itoa::Buffer::new();

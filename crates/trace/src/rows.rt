@@ -64,7 +64,8 @@ pub fn run(
     page: &mut Page,
 ) -> Option<usize>
     requires ready { Ready m.old (lists_lent stores.old) }
-    requires bounds { (4 * m.old.shown ≤ at0) × (at0 ≤ length input.now) × (length input.now ≤ 1048576) × (length (written page.old) + 46 ≤ capacity page.old) }
+    requires bounds { (4 * m.old.shown ≤ at0) × (at0 ≤ length input.now) × (length input.now ≤ 1048576)
+        × (length (written page.old) + 46 ≤ capacity page.old) }
     ensures { RanFrom
         m.old (lists_lent stores.old) input.now at0 page.old
         m.new (lists_lent stores.new) page.new result }
