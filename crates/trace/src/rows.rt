@@ -3,8 +3,9 @@ ghost use Rattle.std.specs.Prelude.{◌≡◌, ◌+◌, ◌*◌, ◌≤◌, ◌<
 ghost use Rattle.rules.specs.Small.{Octets};
 ghost use Rattle.rules.specs.Lent.{lists_in, lists_lent};
 ghost use Rattle.rules.proofs.Limits.{Limits};
-ghost use Rattle.text.specs.Page.{written, capacity};
+ghost use Rattle.text.specs.Page.{written, capacity, SamePage};
 ghost use Rattle.text.specs.Text.{row_text};
+ghost use Rattle.machine.specs.Machine.{SameStores};
 ghost use Rattle.machine.specs.Sane.{Ready};
 ghost use Rattle.trace.specs.Step.{row_of, with_row};
 ghost use Rattle.trace.specs.Trace.{text_of};
@@ -28,6 +29,7 @@ fn show(m: &mut Machine, told: Told, page: &mut Page)
     ensures machine { m.new ≡ with_row m.old }
     ensures text { written page.new ≡ written page.old ++ row_text (row_of (with_row m.old) told) }
     ensures capacity { capacity page.new ≡ capacity page.old }
+    ensures same { SamePage page.old page.new }
     ensures bound { length (written page.new) ≤ length (written page.old) + 126 }
 {
     m.shown += 1;
@@ -39,9 +41,10 @@ fn show(m: &mut Machine, told: Told, page: &mut Page)
 fn advance(m: &mut Machine, stores: &mut Stores, rest: &[u8], page: &mut Page) -> Option<usize>
     requires ready { Ready m.old (lists_lent stores.old) }
     requires bounds { (m.old.shown < 536870912) × (0 < length rest.now) × (length (written page.old) + 126 ≤ capacity page.old) }
-    ensures { Advanced
+    ensures value { Advanced
         m.old (lists_lent stores.old) rest.now page.old
         m.new (lists_lent stores.new) page.new result }
+    ensures same { SameStores stores.old stores.new × SamePage page.old page.new }
 {
     let Some(asked) = request::read(rest) else {
         show(m, machine::bad(), page);
@@ -66,9 +69,10 @@ pub fn run(
     requires ready { Ready m.old (lists_lent stores.old) }
     requires bounds { (4 * m.old.shown ≤ at0) × (at0 ≤ length input.now) × (length input.now ≤ 1048576)
         × (length (written page.old) + 46 ≤ capacity page.old) }
-    ensures { RanFrom
+    ensures value { RanFrom
         m.old (lists_lent stores.old) input.now at0 page.old
         m.new (lists_lent stores.new) page.new result }
+    ensures same { SameStores stores.old stores.new × SamePage page.old page.new }
 {
     let mut at = at0;
     while at < input.len() {

@@ -3,7 +3,7 @@ use Rattle.std.proofs.Common.{arith}
 use Rattle.trace.proofs.Traces.{along_last}
 use Rattle.trace.proofs.rows.run.Goals as goal
 
-pub returns : goal.returns
-returns c =
+pub returns-clause-value : goal.returns-clause-value
+returns-clause-value c =
     let last = c.put_end-2.ensures in
-    along_last _ _ _ _ _ _ _ _ _ c.loop-at.invariant _ (omega arith) last.text last.capacity last.bound
+    along_last _ _ _ _ _ _ _ _ _ c.loop-at.invariant.0 _ (omega arith) last.text last.capacity last.bound
