@@ -9,7 +9,7 @@ use script::kind::{OfAmount, OfNode, OfRecord};
 use script::line::Answer;
 use std::alloc::{AllocError, Global};
 
-/// A checkpoint's numbers: a refused call leaves the noughts that were there.
+// A checkpoint's numbers: a refused call leaves the noughts that were there.
 fn checkpoint(a: &Allocator) -> Answer {
     let mut k = lent::plain(&[0; 6]);
     let r = c_state::clvm_checkpoint_of(a, &mut k);
@@ -127,7 +127,7 @@ fn new_pair(a: &mut Allocator, lists: &mut Lists, first: u32, rest: u32) -> Answ
     c_creates::clvm_new_pair(a, firsts, lists.rests.part_mut(), first, rest).seen()
 }
 
-/// The file is lent up to a length.
+// The file is lent up to a length.
 fn load(a: &mut Allocator, lists: &mut Lists, length: usize) -> Answer {
     let bytes = lists.bytes.part_mut();
     let starts = lists.starts.part_mut();
@@ -209,7 +209,7 @@ fn of_amount(which: &OfAmount, amount: usize, a: &mut Allocator) -> Answer {
     }
 }
 
-/// What a call answers.
+// What a call answers.
 pub fn made(
     alloc: Global,
     call: &Call<'_>,

@@ -18,10 +18,10 @@ use std::{fs, io};
 
 const FILES: [&str; 4] = ["document.txt", "runs.txt", "files.txt", "rust.txt"];
 
-/// The most lines that are read.
+// The most lines that are read.
 const TURNS: u64 = 1000000000;
 
-/// Makes the call of a line, where it is one, and does else what the line says.
+// Makes the call of a line, where it is one, and does else what the line says.
 fn turn(alloc: Global, course: &mut Course, text: &[u8]) -> Result<(), Fault> {
     let Some(asked) = course.turn(text)? else {
         return Ok(());
@@ -31,7 +31,7 @@ fn turn(alloc: Global, course: &mut Course, text: &[u8]) -> Result<(), Fault> {
     course.answer(text, &asked, came, lent::record_of(&record))
 }
 
-/// Goes through a file: whether its end was come to.
+// Goes through a file: whether its end was come to.
 fn follow<R: Files<File = File>, W: Write>(
     rt: &R,
     alloc: Global,

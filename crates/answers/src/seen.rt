@@ -4,10 +4,10 @@ use clvm_allocator::answers::{
 };
 use script::line::Answer;
 
-/// The small atom 0.
+// The small atom 0.
 const NIL: u32 = 134217728;
 
-/// Code, node and values.
+// Code, node and values.
 pub fn answer<const N: usize>(code: u32, node: u32, shown: [u64; N]) -> Answer {
     let mut values = [0; 6];
     for (value, x) in values.iter_mut().zip(&shown) {
@@ -20,12 +20,12 @@ pub fn answer<const N: usize>(code: u32, node: u32, shown: [u64; N]) -> Answer {
     }
 }
 
-/// A number that comes with no code.
+// A number that comes with no code.
 pub fn plain(n: u64) -> Answer {
     answer(0, NIL, [n])
 }
 
-/// What the C library answers with.
+// What the C library answers with.
 pub trait Seen {
     fn seen(self) -> Answer;
 }
@@ -89,7 +89,7 @@ impl Seen for CLoaded {
     }
 }
 
-/// The part of an atom, with the scratch that it may lie in: at most eight bytes, as a big-endian number.
+// The part of an atom, with the scratch that it may lie in: at most eight bytes, as a big-endian number.
 pub fn part(part: CPart, scratch: &[u8]) -> Answer {
     let mut number: u64 = 0;
     for b in scratch {

@@ -8,7 +8,7 @@ use std::alloc::{AllocError, Global};
 use std::io;
 use std::io::Write;
 
-/// What is told of the file that is read: its name, its cases and calls, its line's number, its case, and its last call.
+// What is told of the file that is read: its name, its cases and calls, its line's number, its case, and its last call.
 #[derive(Drop)]
 struct Page {
     name: &'static str,
@@ -27,9 +27,9 @@ pub struct Course {
     tally: Tally,
     record: Record,
     pub lists: Lists,
-    /// The number that the last line with one begins with.
+    // The number that the last line with one begins with.
     first: u64,
-    /// Whether the lists have not been compared since the last call.
+    // Whether the lists have not been compared since the last call.
     is_pending: bool,
 }
 
@@ -46,7 +46,7 @@ impl Page {
         }
     }
 
-    /// The last call's line, with its case.
+    // The last call's line, with its case.
     fn show_call<W: Write>(&self, out: &mut W) -> io::Result<()> {
         let name = self.name;
         let line = self.call_line;
@@ -71,23 +71,23 @@ impl Course {
         })
     }
 
-    /// A file begins.
+    // A file begins.
     pub fn open(&mut self, name: &'static str) {
         self.page = Page::new(self.alloc, name);
         self.is_pending = false;
     }
 
-    /// The record before the call that is to be made.
+    // The record before the call that is to be made.
     pub fn record(&self) -> Record {
         self.record
     }
 
-    /// A line is read from here on.
+    // A line is read from here on.
     pub fn count_line(&mut self) {
         self.page.line = self.page.line.saturating_add(1);
     }
 
-    /// Does what a line says, but for a call, which is to be made.
+    // Does what a line says, but for a call, which is to be made.
     pub fn turn<'a>(&mut self, text: &'a [u8]) -> Result<Option<Asked<'a>>, Fault> {
         let line = Line::read(self.alloc, text, self.first)?;
         if !self.may_stand(&line) {
@@ -111,7 +111,7 @@ impl Course {
         Ok(None)
     }
 
-    /// Whether a line may stand where it does: in a case, within what is lent, and `now` behind a call.
+    // Whether a line may stand where it does: in a case, within what is lent, and `now` behind a call.
     fn may_stand(&self, line: &Line<'_>) -> bool {
         match line {
             Line::Comment | Line::Case => true,
@@ -126,7 +126,7 @@ impl Course {
         }
     }
 
-    /// Compares the lists, where a call was made since they were compared.
+    // Compares the lists, where a call was made since they were compared.
     pub fn compare(&mut self) -> Result<(), Fault> {
         if !self.is_pending {
             return Ok(());
@@ -138,7 +138,7 @@ impl Course {
         }
     }
 
-    /// A case begins: nothing is lent, and the record is seven noughts.
+    // A case begins: nothing is lent, and the record is seven noughts.
     fn begin(&mut self, text: &[u8]) -> Result<(), AllocError> {
         self.page.cases = self.page.cases.saturating_add(1);
         self.page.case.clear();
@@ -150,7 +150,7 @@ impl Course {
         Ok(())
     }
 
-    /// Compares the answer that came, and the record that the call left, with what its line expects, and counts it.
+    // Compares the answer that came, and the record that the call left, with what its line expects, and counts it.
     pub fn answer(
         &mut self,
         text: &[u8],
@@ -180,7 +180,7 @@ impl Course {
         Ok(())
     }
 
-    /// Says why a file is read no further, with the line that it came to.
+    // Says why a file is read no further, with the line that it came to.
     pub fn show<W: Write>(&self, out: &mut W, text: &[u8], fault: &Fault) -> io::Result<()> {
         let name = self.page.name;
         let line = self.page.line;
@@ -206,7 +206,7 @@ impl Course {
         }
     }
 
-    /// The end of a file: what was compared in it.
+    // The end of a file: what was compared in it.
     pub fn close<W: Write>(&self, out: &mut W) -> io::Result<()> {
         let name = self.page.name;
         let cases = self.page.cases;
@@ -214,13 +214,13 @@ impl Course {
         writeln!(out, "{name}: {cases} cases, {calls} calls")
     }
 
-    /// The end of the files: how often each call answered each code.
+    // The end of the files: how often each call answered each code.
     pub fn total<W: Write>(&self, out: &mut W) -> io::Result<()> {
         self.tally.print(out)
     }
 }
 
-/// An answer with so many values, and the record where it changed.
+// An answer with so many values, and the record where it changed.
 fn show_answer<W: Write>(
     out: &mut W,
     came: &Answer,

@@ -6,11 +6,11 @@ use std::alloc::{AllocError, AllocFailed};
 
 #[derive(Drop)]
 pub enum Fault {
-    /// The line is none of those in FORMAT.md, or stands where it may not.
+    // The line is none of those in FORMAT.md, or stands where it may not.
     NotUnderstood,
-    /// The call above has left a list otherwise.
+    // The call above has left a list otherwise.
     Left(Difference),
-    /// The call answers otherwise: with so many values, and with a record where it changes.
+    // The call answers otherwise: with so many values, and with a record where it changes.
     Answered {
         came: Answer,
         values: usize,

@@ -1,4 +1,4 @@
-// What the calls of a script are lent beside what they must leave, and what is said of a difference.
+// Recorded calls beside what came of them: what they are lent and must leave, what is said of a difference, and how often each code came.
 #![tactic(auto)]
 
 pub mod course;

@@ -5,12 +5,12 @@ use script::part::{Laid, Part};
 use std::alloc::{AllocError, Global};
 use std::fmt;
 
-/// What bytes and slots hold when a case begins.
+// What bytes and slots hold when a case begins.
 const BYTE: u8 = 165;
 
 const SLOT: u32 = 2779096485;
 
-/// Where a list is not as it must be.
+// Where a list is not as it must be.
 #[derive(Clone, Copy)]
 pub struct Difference {
     list: &'static str,
@@ -29,7 +29,7 @@ impl fmt::Display for Difference {
     }
 }
 
-/// A list whose first entries are lent. Entries that were not yet lent since the case began hold the filler, and are made once they are.
+// A list whose first entries are lent. Entries that were not yet lent since the case began hold the filler, and are made once they are.
 #[derive(Drop)]
 pub struct Lent<T> {
     name: &'static str,
@@ -71,24 +71,24 @@ impl<T: Copy + PartialEq + Into<u64>> Lent<T> {
         Ok(())
     }
 
-    /// How many entries are lent.
+    // How many entries are lent.
     pub fn lent(&self) -> usize {
         self.lent
     }
 
-    /// What is lent, to be read.
+    // What is lent, to be read.
     pub fn part(&self) -> &[T] {
         let n = self.lent.min(self.came.len());
         &self.came[..n]
     }
 
-    /// What is lent, to be changed.
+    // What is lent, to be changed.
     pub fn part_mut(&mut self) -> &mut [T] {
         let n = self.lent.min(self.came.len());
         &mut self.came[..n]
     }
 
-    /// Whether what would be laid there stays within what is lent.
+    // Whether what would be laid there stays within what is lent.
     fn has_room<L: Laid<T>>(&self, at: usize, laid: &L) -> bool {
         at.saturating_add(laid.len()) <= self.lent
     }
@@ -102,7 +102,7 @@ impl<T: Copy + PartialEq + Into<u64>> Lent<T> {
         lay(&mut self.expected, at, laid);
     }
 
-    /// The first entry that is lent and not as it must be.
+    // The first entry that is lent and not as it must be.
     fn difference(&self) -> Option<Difference> {
         for (at, (came, expected)) in self.part().iter().zip(&self.expected).enumerate() {
             if came != expected {
@@ -140,7 +140,7 @@ impl Lists {
         }
     }
 
-    /// A case begins: nothing is lent.
+    // A case begins: nothing is lent.
     pub fn begin(&mut self) {
         self.bytes.begin();
         self.starts.begin();
@@ -150,7 +150,7 @@ impl Lists {
         self.file.begin();
     }
 
-    /// So much of each list is lent from here on: the lists keep what they hold.
+    // So much of each list is lent from here on: the lists keep what they hold.
     pub fn lend(&mut self, lengths: &Lengths) -> Result<(), AllocError> {
         let [bytes, starts, ends, firsts, rests, file] = *lengths;
         self.bytes.lend(bytes)?;
@@ -161,7 +161,7 @@ impl Lists {
         self.file.lend(file)
     }
 
-    /// Whether a part stays within what is lent.
+    // Whether a part stays within what is lent.
     pub fn have_room(&self, part: &Part<'_>) -> bool {
         match part {
             Part::Bytes(at, bytes) => self.bytes.has_room(*at, bytes),
@@ -175,7 +175,7 @@ impl Lists {
         }
     }
 
-    /// Lays a part into the lists.
+    // Lays a part into the lists.
     pub fn put(&mut self, part: &Part<'_>) {
         match part {
             Part::Bytes(at, bytes) => self.bytes.put(*at, bytes),
@@ -191,7 +191,7 @@ impl Lists {
         }
     }
 
-    /// Has the lists hold a part once the call above has written it.
+    // Has the lists hold a part once the call above has written it.
     pub fn expect(&mut self, part: &Part<'_>) {
         match part {
             Part::Bytes(at, bytes) => self.bytes.expect(*at, bytes),
@@ -207,7 +207,7 @@ impl Lists {
         }
     }
 
-    /// The first difference, in the order of the lists.
+    // The first difference, in the order of the lists.
     pub fn difference(&self) -> Option<Difference> {
         self.bytes
             .difference()

@@ -4,7 +4,7 @@ use std::alloc::{AllocError, Global};
 use std::io;
 use std::io::Write;
 
-/// The codes are below this number.
+// The codes are below this number.
 const CODES: usize = 20;
 
 #[derive(Drop)]
@@ -19,7 +19,7 @@ impl Tally {
         })
     }
 
-    /// One more answer. A code that there is not is counted as the last.
+    // One more answer. A code that there is not is counted as the last.
     pub fn count(&mut self, row: usize, code: u64) {
         if let Some(codes) = self.calls.get_mut(row) {
             let code = (code as usize).min(CODES - 1);
@@ -27,7 +27,7 @@ impl Tally {
         }
     }
 
-    /// A line for each call that was made, and how many answers there were.
+    // A line for each call that was made, and how many answers there were.
     pub fn print<W: Write>(&self, out: &mut W) -> io::Result<()> {
         let mut all: u64 = 0;
         for ((_, name, _), codes) in CALLS.iter().zip(&self.calls) {
@@ -38,7 +38,7 @@ impl Tally {
     }
 }
 
-/// Each code that a call answered, and how often; nothing where it was not made. How often it was made.
+// Each code that a call answered, and how often; nothing where it was not made. How often it was made.
 fn print_codes<W: Write>(out: &mut W, name: &str, codes: &[u64; CODES]) -> io::Result<u64> {
     let mut made: u64 = 0;
     for (code, n) in codes.iter().enumerate() {

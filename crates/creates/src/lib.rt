@@ -1,5 +1,5 @@
-// The calls that count: atoms, integers, pairs, ghosts, parts of atoms. Each answers a node or a refusal, which leaves the record as it was and
-// writes no slot.
+// The calls that count: atoms, integers, pairs, ghosts, parts of atoms. Each makes a node, or changes ghosts alone, or refuses: then the record is
+// as it was, and no slot is written.
 #![tactic(auto)]
 
 pub mod atom;

@@ -21,7 +21,7 @@ fn node_buffer() -> [u32; 16384]
     [0; 16384]
 }
 
-// The nodes of a concat, as numbers.
+// A new atom of the bytes of a concat's nodes, which are read from the payload first.
 fn new_concat(
     a: &mut Allocator,
     store: &mut AtomStore,

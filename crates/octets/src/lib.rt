@@ -3,8 +3,7 @@
 
 ghost use Rattle.std.specs.Prelude.{◌≡◌, ◌≤◌, ◌++◌, length, drop};
 
-// Copies the bytes of one slice to the front of another: the one function that writes into the tail of a byte store that is lent on from
-// its middle.
+// Copies the bytes of one slice to the front of another, which may be the tail of a byte store, lent on from its middle.
 pub fn copy(from: &[u8], to: &mut [u8])
     requires { length from.now ≤ length to.old }
     ensures len { length to.new ≡ length to.old }

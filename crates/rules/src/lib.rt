@@ -1,4 +1,4 @@
-// The types of the port: the record, its checkpoints, the codes and the refusals, and what the calls answer.
+// The types of the port: the record, the lent slices, checkpoints, codes and refusals, and what the calls answer; and a test of a call.
 // What each case means, with document 01's numbers, is set out in specs/Paper.antt.
 #![tactic(auto)]
 

@@ -5,12 +5,12 @@ use super::words::{Unread, Words};
 use super::{BYTES, SCRATCH};
 use std::alloc::Global;
 
-/// The numbers of a plain checkpoint, and of a transparent one.
+// The numbers of a plain checkpoint, and of a transparent one.
 pub type Plain = [u64; 6];
 
 pub type Transparent = [u64; 3];
 
-/// The groups of `Kind`, and then the calls that are handed something else.
+// The groups of `Kind`, and then the calls that are handed something else.
 #[derive(Drop)]
 pub enum Call<'a> {
     Node(OfNode, u32),
@@ -32,7 +32,7 @@ pub enum Call<'a> {
     NewConcat(usize, Vec<u32>),
 }
 
-/// The integer of a sign, 1 where it is below zero and 0 elsewhere, and a size.
+// The integer of a sign, 1 where it is below zero and 0 elsewhere, and a size.
 fn signed(words: &mut Words<'_>) -> Result<i64, Unread> {
     let sign = words.number()?;
     let size = words.number()?;
@@ -43,7 +43,7 @@ fn signed(words: &mut Words<'_>) -> Result<i64, Unread> {
     }
 }
 
-/// The size and at most 16 nodes. With no word at all, the size is that which was given.
+// The size and at most 16 nodes. With no word at all, the size is that which was given.
 fn concat<'a>(alloc: Global, words: &mut Words<'_>, size: u64) -> Result<Call<'a>, Unread> {
     let mut nodes = Vec::new(alloc);
     if words.is_empty() {
@@ -60,8 +60,8 @@ fn concat<'a>(alloc: Global, words: &mut Words<'_>, size: u64) -> Result<Call<'a
 }
 
 impl<'a> Call<'a> {
-    /// A call of this kind, with the words behind its name, and the first number of the lines above, which a `new_concat` with no word has
-    /// for its size.
+    // A call of this kind, with the words behind its name, and the first number of the lines above, which a `new_concat` with no word has
+    // for its size.
     pub fn read(
         alloc: Global,
         kind: Kind,

@@ -1,6 +1,6 @@
 // The calls by their names.
 
-/// The calls that are handed a node or a value of 32 bits.
+// The calls that are handed a node or a value of 32 bits.
 #[derive(Clone, Copy)]
 pub enum OfNode {
     ObjectType,
@@ -17,7 +17,7 @@ pub enum OfNode {
     Next,
 }
 
-/// The calls that are handed nothing.
+// The calls that are handed nothing.
 #[derive(Clone, Copy)]
 pub enum OfRecord {
     AtomCount,
@@ -31,7 +31,7 @@ pub enum OfRecord {
     WellFormed,
 }
 
-/// The calls that are handed an amount.
+// The calls that are handed an amount.
 #[derive(Clone, Copy)]
 pub enum OfAmount {
     NewLimited,
@@ -40,7 +40,7 @@ pub enum OfAmount {
     AddGhostAtom,
 }
 
-/// Which function of the C library is called.
+// Which function of the C library is called.
 #[derive(Clone, Copy)]
 pub enum Kind {
     Node(OfNode),
@@ -62,10 +62,10 @@ pub enum Kind {
     NewConcat,
 }
 
-/// A call, its name, and how many values its answer has behind code and node.
+// A call, its name, and how many values its answer has behind code and node.
 pub type Row = (Kind, &'static str, usize);
 
-/// The calls, in the order in which they are counted.
+// The calls, in the order in which they are counted.
 pub static CALLS: [Row; 39] = [
     (Kind::Node(OfNode::ObjectType), "object_type", 1),
     (Kind::Node(OfNode::Index), "index", 1),

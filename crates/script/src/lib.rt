@@ -8,10 +8,10 @@ pub mod lines;
 pub mod part;
 pub mod words;
 
-/// The most bytes, bytes of the file and slots of each sort that are lent.
+// The most bytes, bytes of the file and slots of each sort that are lent.
 pub const BYTES: usize = 1048640;
 
 pub const SLOTS: usize = 4160;
 
-/// The most bytes of a scratch.
+// The most bytes of a scratch.
 pub const SCRATCH: usize = 8;

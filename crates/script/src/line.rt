@@ -6,13 +6,13 @@ use super::words::{Unread, Words};
 use super::{BYTES, SLOTS};
 use std::alloc::Global;
 
-/// The record's numbers, in the order of the C header.
+// The record's numbers, in the order of the C header.
 pub type Record = [u64; 7];
 
-/// How much of each list is lent: bytes, starts, ends, firsts, rests, file.
+// How much of each list is lent: bytes, starts, ends, firsts, rests, file.
 pub type Lengths = [usize; 6];
 
-/// A call's code, its node and its values: those that it has not are nought.
+// A call's code, its node and its values: those that it has not are nought.
 #[derive(Clone, Copy, PartialEq, Eq)]
 pub struct Answer {
     pub code: u64,
@@ -20,10 +20,10 @@ pub struct Answer {
     pub values: [u64; 6],
 }
 
-/// A call, and what must come of it: the record only where it changes.
+// A call, and what must come of it: the record only where it changes.
 #[derive(Drop)]
 pub struct Asked<'a> {
-    /// Which of `CALLS` it is, and how many values its answer has.
+    // Which of `CALLS` it is, and how many values its answer has.
     pub row: usize,
     pub values: usize,
     pub call: Call<'a>,
@@ -42,7 +42,7 @@ pub enum Line<'a> {
     Call(Asked<'a>),
 }
 
-/// What stands behind the name of a line that is text.
+// What stands behind the name of a line that is text.
 pub fn text_of<'a>(line: &'a [u8], name: &[u8]) -> Option<&'a [u8]> {
     match line.strip_prefix(name)? {
         [] => Some(&[]),
@@ -51,7 +51,7 @@ pub fn text_of<'a>(line: &'a [u8], name: &[u8]) -> Option<&'a [u8]> {
     }
 }
 
-/// The first number behind a line's name of one or two words.
+// The first number behind a line's name of one or two words.
 pub fn first_number(text: &[u8]) -> Option<u64> {
     let text = str::from_utf8(text).ok()?;
     let (call, _) = text.split_once(" = ").unwrap_or((text, ""));
@@ -64,7 +64,7 @@ pub fn first_number(text: &[u8]) -> Option<u64> {
 }
 
 impl<'a> Line<'a> {
-    /// The line that a text is, behind lines of which the last that has a number begins with that: whether it may stand there is not asked.
+    // The line that a text is, behind lines of which the last that has a number begins with that: whether it may stand there is not asked.
     pub fn read(alloc: Global, text: &'a [u8], above: u64) -> Result<Line<'a>, Unread> {
         if text_of(text, b"#").is_some() {
             return Ok(Line::Comment);

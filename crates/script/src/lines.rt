@@ -3,20 +3,20 @@ use std::alloc::Global;
 use std::io;
 use std::io::{BufRead, BufReader, Read, Take};
 
-/// The most characters of a line.
+// The most characters of a line.
 const LONGEST: usize = 20000;
 
-/// How many bytes are looked at for a line's end, so that one that is too long is seen.
+// How many bytes are looked at for a line's end, so that one that is too long is seen.
 const WINDOW: u64 = 20480;
 
-/// A file longer than any that is kept here is read no further.
+// A file longer than any that is kept here is read no further.
 const FAR: u64 = 1 << 32;
 
-/// What was read.
+// What was read.
 #[derive(Clone, Copy)]
 pub enum Found {
     Line,
-    /// A line that is too long, or ends with the file and not with a newline.
+    // A line that is too long, or ends with the file and not with a newline.
     Unended,
     End,
 }
@@ -35,7 +35,7 @@ impl<F: Read + Drop> Lines<F> {
         })
     }
 
-    /// Lays the next line into a buffer, without its newline.
+    // Lays the next line into a buffer, without its newline.
     pub fn next(&mut self, line: &mut Vec<u8>) -> io::Result<Found> {
         line.clear();
         if FAR <= self.at {

@@ -3,23 +3,23 @@ use super::words::{Unread, Words};
 use super::{BYTES, SLOTS};
 use std::alloc::{AllocError, Global};
 
-/// What can be laid into a list of such entries.
+// What can be laid into a list of such entries.
 pub trait Laid<T> {
-    /// How many entries it has.
+    // How many entries it has.
     fn len(&self) -> usize;
 
-    /// Lays down as many of them as there is room for.
+    // Lays down as many of them as there is room for.
     fn lay(&self, to: &mut [T]);
 }
 
-/// So many bytes, whose hexadecimal digits are those of a pattern that is repeated from its start.
+// So many bytes, whose hexadecimal digits are those of a pattern that is repeated from its start.
 #[derive(Clone, Copy)]
 pub struct Pattern<'a> {
     len: usize,
     digits: &'a [u8],
 }
 
-/// The value of a hexadecimal digit.
+// The value of a hexadecimal digit.
 fn digit(b: u8) -> Option<u8> {
     match b {
         b'0'..=b'9' => Some(b - b'0'),
@@ -35,7 +35,7 @@ fn byte(high: u8, low: u8) -> u8 {
 }
 
 impl<'a> Pattern<'a> {
-    /// Two words: how many bytes, and the pattern; that of no bytes is `-`.
+    // Two words: how many bytes, and the pattern; that of no bytes is `-`.
     pub fn read(words: &mut Words<'a>) -> Result<Pattern<'a>, Unread> {
         let len = words.count(BYTES)?;
         let digits = words.word()?.as_bytes();
@@ -53,7 +53,7 @@ impl<'a> Pattern<'a> {
         }
     }
 
-    /// The bytes themselves.
+    // The bytes themselves.
     pub fn to_vec(&self, alloc: Global) -> Result<Vec<u8>, AllocError> {
         let mut bytes = vec![in alloc; 0; self.len]?;
         self.lay(&mut bytes);
@@ -74,7 +74,7 @@ impl Laid<u8> for Pattern<'_> {
     }
 }
 
-/// So many slots: each is a step above the one before, modulo 2^32.
+// So many slots: each is a step above the one before, modulo 2^32.
 #[derive(Clone, Copy)]
 pub struct Steps {
     len: usize,
@@ -106,7 +106,7 @@ impl Laid<u32> for Steps {
     }
 }
 
-/// What `put` and `now` lay into the lists, and from which index on.
+// What `put` and `now` lay into the lists, and from which index on.
 #[derive(Clone, Copy)]
 pub enum Part<'a> {
     Bytes(usize, Pattern<'a>),
@@ -116,7 +116,7 @@ pub enum Part<'a> {
 }
 
 impl<'a> Part<'a> {
-    /// What stands behind `put` or `now`.
+    // What stands behind `put` or `now`.
     pub fn read(words: &mut Words<'a>) -> Result<Part<'a>, Unread> {
         let list = words.word()?;
         let at = words.count(BYTES)?;

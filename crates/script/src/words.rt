@@ -2,10 +2,10 @@
 use std::alloc::AllocFailed;
 use std::num::{ParseIntError, TryFromIntError};
 
-/// Why a line is not read.
+// Why a line is not read.
 #[derive(Clone, Copy)]
 pub enum Unread {
-    /// It is none of those in FORMAT.md, or stands where it may not.
+    // It is none of those in FORMAT.md, or stands where it may not.
     NotUnderstood,
     OutOfMemory,
 }
@@ -28,7 +28,7 @@ impl<T: Drop> From<AllocFailed<T>> for Unread {
     }
 }
 
-/// A decimal number below 2^64. Digits alone are one: `parse` would take a sign before them.
+// A decimal number below 2^64. Digits alone are one: `parse` would take a sign before them.
 pub fn number(word: &str) -> Result<u64, Unread> {
     if !word.bytes().all(|b| b.is_ascii_digit()) {
         return Err(Unread::NotUnderstood);
@@ -36,7 +36,7 @@ pub fn number(word: &str) -> Result<u64, Unread> {
     Ok(word.parse::<u64>()?)
 }
 
-/// The words that are left.
+// The words that are left.
 #[derive(Drop)]
 pub struct Words<'a> {
     rest: Option<&'a str>,
@@ -65,12 +65,12 @@ impl<'a> Words<'a> {
         number(self.word()?)
     }
 
-    /// A number of 32 bits: a node, a slot, or a small value.
+    // A number of 32 bits: a node, a slot, or a small value.
     pub fn narrow(&mut self) -> Result<u32, Unread> {
         Ok(u32::try_from(self.number()?)?)
     }
 
-    /// A count of at most so many.
+    // A count of at most so many.
     pub fn count(&mut self, most: usize) -> Result<usize, Unread> {
         let n = self.size()?;
         if n <= most {
@@ -92,14 +92,14 @@ impl<'a> Words<'a> {
         Ok(numbers)
     }
 
-    /// So many numbers, and no word behind them.
+    // So many numbers, and no word behind them.
     pub fn only<const N: usize>(&mut self) -> Result<[u64; N], Unread> {
         let numbers = self.numbers()?;
         self.end()?;
         Ok(numbers)
     }
 
-    /// No word is left.
+    // No word is left.
     pub fn end(&self) -> Result<(), Unread> {
         match self.rest {
             None => Ok(()),
