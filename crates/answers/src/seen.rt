@@ -2,10 +2,8 @@
 use clvm_allocator::answers::{
     CAnswer, CChildren, CLoaded, CNumber, COption, CPart, CRestored, CStatus, CVisited,
 };
+use rules::NIL;
 use script::line::Answer;
-
-// The small atom 0.
-const NIL: u32 = 134217728;
 
 // Code, node and values.
 pub fn answer<const N: usize>(code: u32, node: u32, shown: [u64; N]) -> Answer {

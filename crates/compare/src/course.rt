@@ -10,7 +10,7 @@ use std::io::Write;
 
 // What is told of the file that is read: its name, its cases and calls, its line's number, its case, and its last call.
 #[derive(Drop)]
-struct Page {
+struct Place {
     name: &'static str,
     cases: u64,
     calls: u64,
@@ -23,7 +23,7 @@ struct Page {
 #[derive(Drop)]
 pub struct Course {
     alloc: Global,
-    page: Page,
+    place: Place,
     tally: Tally,
     record: Record,
     pub lists: Lists,
@@ -33,9 +33,9 @@ pub struct Course {
     is_pending: bool,
 }
 
-impl Page {
-    fn new(alloc: Global, name: &'static str) -> Page {
-        Page {
+impl Place {
+    fn new(alloc: Global, name: &'static str) -> Place {
+        Place {
             name,
             cases: 0,
             calls: 0,
@@ -62,7 +62,7 @@ impl Course {
     pub fn new(alloc: Global) -> Result<Course, AllocError> {
         Ok(Course {
             alloc,
-            page: Page::new(alloc, ""),
+            place: Place::new(alloc, ""),
             tally: Tally::new(alloc)?,
             record: [0; 7],
             lists: Lists::new(alloc),
@@ -73,7 +73,7 @@ impl Course {
 
     // A file begins.
     pub fn open(&mut self, name: &'static str) {
-        self.page = Page::new(self.alloc, name);
+        self.place = Place::new(self.alloc, name);
         self.is_pending = false;
     }
 
@@ -84,7 +84,7 @@ impl Course {
 
     // A line is read from here on.
     pub fn count_line(&mut self) {
-        self.page.line = self.page.line.saturating_add(1);
+        self.place.line = self.place.line.saturating_add(1);
     }
 
     // Does what a line says, but for a call, which is to be made.
@@ -115,7 +115,7 @@ impl Course {
     fn may_stand(&self, line: &Line<'_>) -> bool {
         match line {
             Line::Comment | Line::Case => true,
-            _ if self.page.cases == 0 => false,
+            _ if self.place.cases == 0 => false,
             Line::Put(part) => self.lists.have_room(part),
             Line::Now(part) => self.is_pending && self.lists.have_room(part),
             Line::Call(asked) => match asked.call {
@@ -140,10 +140,10 @@ impl Course {
 
     // A case begins: nothing is lent, and the record is seven noughts.
     fn begin(&mut self, text: &[u8]) -> Result<(), AllocError> {
-        self.page.cases = self.page.cases.saturating_add(1);
-        self.page.case.clear();
+        self.place.cases = self.place.cases.saturating_add(1);
+        self.place.case.clear();
         if let Some(name) = text_of(text, b"case") {
-            self.page.case.extend_from_slice(name)?;
+            self.place.case.extend_from_slice(name)?;
         }
         self.record = [0; 7];
         self.lists.begin();
@@ -158,9 +158,9 @@ impl Course {
         came: Answer,
         record: Record,
     ) -> Result<(), Fault> {
-        self.page.call_line = self.page.line;
-        self.page.call.clear();
-        self.page.call.extend_from_slice(text)?;
+        self.place.call_line = self.place.line;
+        self.place.call.clear();
+        self.place.call.extend_from_slice(text)?;
         if came != asked.answer || record != asked.record.unwrap_or(self.record) {
             let changed = if record == self.record {
                 None
@@ -175,15 +175,15 @@ impl Course {
         }
         self.record = record;
         self.is_pending = true;
-        self.page.calls = self.page.calls.saturating_add(1);
+        self.place.calls = self.place.calls.saturating_add(1);
         self.tally.count(asked.row, came.code);
         Ok(())
     }
 
     // Says why a file is read no further, with the line that it came to.
     pub fn show<W: Write>(&self, out: &mut W, text: &[u8], fault: &Fault) -> io::Result<()> {
-        let name = self.page.name;
-        let line = self.page.line;
+        let name = self.place.name;
+        let line = self.place.line;
         match fault {
             Fault::NotUnderstood => {
                 writeln!(out, "{name} line {line}: not understood")?;
@@ -191,7 +191,7 @@ impl Course {
                 writeln!(out)
             }
             Fault::Left(difference) => {
-                self.page.show_call(out)?;
+                self.place.show_call(out)?;
                 writeln!(out, "{difference}")
             }
             Fault::Answered {
@@ -199,7 +199,7 @@ impl Course {
                 values,
                 record,
             } => {
-                self.page.show_call(out)?;
+                self.place.show_call(out)?;
                 show_answer(out, came, *values, record)
             }
             Fault::OutOfMemory => Err(AllocError.into()),
@@ -208,9 +208,9 @@ impl Course {
 
     // The end of a file: what was compared in it.
     pub fn close<W: Write>(&self, out: &mut W) -> io::Result<()> {
-        let name = self.page.name;
-        let cases = self.page.cases;
-        let calls = self.page.calls;
+        let name = self.place.name;
+        let cases = self.place.cases;
+        let calls = self.place.calls;
         writeln!(out, "{name}: {cases} cases, {calls} calls")
     }
 

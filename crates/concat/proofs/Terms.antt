@@ -4,16 +4,19 @@ use mathlib.Core.Path.{◌≡◌, refl, sym, ap, ◌∙◌}
 use mathlib.Core.List.{List, [], ◌++◌}
 use native.Mathlib.Numerals.{add-one}
 use native.Mathlib.Omega.{arith}
+use borrow.Rule.Slice.PartMut.{put_mid}
 use lib.ListN.{length, take, drop, get_or, length-append, drop_of_length-le}
 use lib.Seq.{slice, drop-cons, drop-drop, take-take}
 use Rattle.rules.specs.declared.Allocator.{Allocator}
+use Rattle.rules.specs.Small.{len_for, small_bytes}
 use Rattle.rules.specs.Said.{Said, says, refuses}
 use Rattle.rules.specs.State.{AtomSlots, Store, over}
 use Rattle.rules.specs.Reads.{Atom, range, value, atom_of}
 use Rattle.rules.specs.Creates.{term_bytes, joined}
 use Rattle.rules.proofs.Lists.{part_slice}
 use Rattle.rules.proofs.Args.{AtomIn, atom_in}
-use Rattle.rules.proofs.Overs.{over_none, take-over, length_over, over-over, slice-same}
+use Rattle.rules.proofs.Smalls.{length-be}
+use Rattle.rules.proofs.Overs.{tail_over, over_none, take-over, length_over, over-over, slice-same}
 
 -- a range of what stands before a place, copied to the place
 pub range_over : (d : List ℕ) (s e at : ℕ) → s ≤ e → e ≤ at
@@ -86,3 +89,10 @@ module _ (a : Allocator) (s : Store) (ns b : List ℕ) (at i : ℕ) (c : Copied 
         room = omega (arith, length_over b next at (omega arith));
         long = length_over b next at (omega arith) ∙ c.long;
       }
+
+-- what copying a small atom's bytes into the lent tail leaves of the list
+pub tail_small : (l part e : List ℕ) (v at : ℕ) → part ≡ small_bytes v → at + len_for v ≤ length l
+    → e ≡ part ++ drop (length part) (take (length l - at) (drop at l)) → put_mid at (length l - at) l e ≡ over l at (small_bytes v)
+tail_small l part e v at p h k =
+    tail_over l (small_bytes v) e at (omega (arith, length-be (len_for v) v))
+    (k ∙ ap (λ (w : List ℕ). w ++ drop (length w) (take (length l - at) (drop at l))) p)
