@@ -7,7 +7,7 @@ use rules::Allocator;
 use script::call::{Call, Plain, Transparent};
 use script::kind::{OfAmount, OfNode, OfRecord};
 use script::line::Answer;
-use std::alloc::{AllocError, Global};
+use std::alloc::AllocError;
 
 // A checkpoint's numbers: a refused call leaves the noughts that were there.
 fn checkpoint(a: &Allocator) -> Answer {
@@ -139,10 +139,10 @@ fn load(a: &mut Allocator, lists: &mut Lists, length: usize) -> Answer {
     c_load::clvm_load(a, bytes, starts, ends, firsts, rests, &file[..length]).seen()
 }
 
-fn new_atom(a: &mut Allocator, lists: &mut Lists, v: &[u8]) -> Answer {
+fn new_atom(a: &mut Allocator, lists: &mut Lists) -> Answer {
     let bytes = lists.bytes.part_mut();
     let starts = lists.starts.part_mut();
-    c_creates::clvm_new_atom(a, bytes, starts, lists.ends.part_mut(), v).seen()
+    c_creates::clvm_new_atom(a, bytes, starts, lists.ends.part_mut(), &lists.handed).seen()
 }
 
 fn new_u64(a: &mut Allocator, lists: &mut Lists, x: u64) -> Answer {
@@ -210,17 +210,15 @@ fn of_amount(which: &OfAmount, amount: usize, a: &mut Allocator) -> Answer {
 }
 
 // What a call answers.
-pub fn made(
-    alloc: Global,
-    call: &Call<'_>,
-    a: &mut Allocator,
-    lists: &mut Lists,
-) -> Result<Answer, AllocError> {
+pub fn made(call: &Call<'_>, a: &mut Allocator, lists: &mut Lists) -> Result<Answer, AllocError> {
     Ok(match call {
         Call::Node(which, n) => of_node(which, *n, a, lists),
         Call::Record(which) => of_record(which, a, lists),
         Call::Amount(which, amount) => of_amount(which, *amount, a),
-        Call::FitsInSmallAtom(v) => c_node::clvm_fits_in_small_atom(&v.to_vec(alloc)?).seen(),
+        Call::FitsInSmallAtom(v) => {
+            lists.hand(v)?;
+            c_node::clvm_fits_in_small_atom(&lists.handed).seen()
+        }
         Call::RestoreCheckpoint(k) => restore(a, lists, k),
         Call::RestoreTransparentCheckpoint(k) => restore_transparent(a, lists, k),
         Call::CheckpointNodeStatus(k, n) => status(a, lists, k, *n),
@@ -229,7 +227,10 @@ pub fn made(
         Call::MaybeRestoreWithNode(k, n) => maybe_restore(a, lists, k, *n),
         Call::NewPair(first, rest) => new_pair(a, lists, *first, *rest),
         Call::Load(length) => load(a, lists, *length),
-        Call::NewAtom(v) => new_atom(a, lists, &v.to_vec(alloc)?),
+        Call::NewAtom(v) => {
+            lists.hand(v)?;
+            new_atom(a, lists)
+        }
         Call::NewU64(x) => new_u64(a, lists, *x),
         Call::NewI64(x) => new_i64(a, lists, *x),
         Call::NewSubstr(n, start, end) => new_substr(a, lists, *n, *start, *end),

@@ -8,7 +8,7 @@ mod seen;
 
 use compare::course::Course;
 use compare::fault::Fault;
-use script::lines::{Found, Lines};
+use script::lines::{Found, Lines, WINDOW};
 use std::alloc::Global;
 use std::fs::File;
 use std::io::Write;
@@ -22,12 +22,12 @@ const FILES: [&str; 4] = ["document.txt", "runs.txt", "files.txt", "rust.txt"];
 const TURNS: u64 = 1000000000;
 
 // Makes the call of a line, where it is one, and does else what the line says.
-fn turn(alloc: Global, course: &mut Course, text: &[u8]) -> Result<(), Fault> {
+fn turn(course: &mut Course, text: &[u8]) -> Result<(), Fault> {
     let Some(asked) = course.turn(text)? else {
         return Ok(());
     };
     let mut record = lent::record(&course.record());
-    let came = calls::made(alloc, &asked.call, &mut record, &mut course.lists)?;
+    let came = calls::made(&asked.call, &mut record, &mut course.lists)?;
     course.answer(text, &asked, came, lent::record_of(&record))
 }
 
@@ -38,6 +38,7 @@ fn follow<R: Files<File = File>, W: Write>(
     out: &mut W,
     course: &mut Course,
     turns: &mut Range<u64>,
+    text: &mut Vec<u8>,
     name: &'static str,
 ) -> io::Result<bool> {
     let Ok(file) = fs::open(rt, name) else {
@@ -45,18 +46,17 @@ fn follow<R: Files<File = File>, W: Write>(
         return Ok(false);
     };
     let mut lines = Lines::new(alloc, file)?;
-    let mut text = Vec::new(alloc);
     course.open(name);
     for _ in turns.by_ref() {
         course.count_line();
-        let found = lines.next(&mut text)?;
+        let found = lines.next(text)?;
         let told = match found {
-            Found::Line => turn(alloc, course, &text),
+            Found::Line => turn(course, text),
             Found::Unended => Err(Fault::NotUnderstood),
             Found::End => course.compare(),
         };
         if let Err(fault) = told {
-            course.show(out, &text, &fault)?;
+            course.show(out, text, &fault)?;
             return Ok(false);
         }
         if let Found::End = found {
@@ -69,10 +69,22 @@ fn follow<R: Files<File = File>, W: Write>(
 
 fn main(rt: HostRuntime) -> io::Result<()> {
     let mut out = io::writer(&rt);
-    let mut course = Course::new(rt.alloc())?;
+    let alloc = rt.alloc();
+    let mut course = Course::new(alloc)?;
+    let mut text = Vec::with_capacity(alloc, WINDOW)?;
     let mut turns = 0..TURNS;
     for name in FILES {
-        if turns.is_empty() || !follow(&rt, rt.alloc(), &mut out, &mut course, &mut turns, name)? {
+        if turns.is_empty()
+            || !follow(
+                &rt,
+                alloc,
+                &mut out,
+                &mut course,
+                &mut turns,
+                &mut text,
+                name,
+            )?
+        {
             return Ok(());
         }
     }

@@ -48,7 +48,18 @@ impl From<Result<bool, Refusal>> for CNumber {
     ghost from_gives = { λ r c. c ≡ number_c (says_of bit (said_in r)) };
 
     fn from(found: Result<bool, Refusal>) -> CNumber {
-        found.map(|yes| yes as usize).into()
+        match found {
+            Ok(yes) => CNumber {
+                code: 0,
+                node: NIL,
+                value: yes as usize,
+            },
+            Err(Refusal { code, node }) => CNumber {
+                code: code.into(),
+                node,
+                value: 0,
+            },
+        }
     }
 }
 

@@ -4,6 +4,7 @@ use super::lists::Lists;
 use super::tally::Tally;
 use script::call::Call;
 use script::line::{Answer, Asked, Line, Record, first_number, text_of};
+use script::lines::WINDOW;
 use std::alloc::{AllocError, Global};
 use std::io;
 use std::io::Write;
@@ -34,16 +35,27 @@ pub struct Course {
 }
 
 impl Place {
-    fn new(alloc: Global, name: &'static str) -> Place {
-        Place {
-            name,
+    fn new(alloc: Global) -> Result<Place, AllocError> {
+        Ok(Place {
+            name: "",
             cases: 0,
             calls: 0,
             line: 0,
-            case: Vec::new(alloc),
-            call: Vec::new(alloc),
+            case: Vec::with_capacity(alloc, WINDOW)?,
+            call: Vec::with_capacity(alloc, WINDOW)?,
             call_line: 0,
-        }
+        })
+    }
+
+    // A file begins.
+    fn begin(&mut self, name: &'static str) {
+        self.name = name;
+        self.cases = 0;
+        self.calls = 0;
+        self.line = 0;
+        self.case.clear();
+        self.call.clear();
+        self.call_line = 0;
     }
 
     // The last call's line, with its case.
@@ -62,10 +74,10 @@ impl Course {
     pub fn new(alloc: Global) -> Result<Course, AllocError> {
         Ok(Course {
             alloc,
-            place: Place::new(alloc, ""),
+            place: Place::new(alloc)?,
             tally: Tally::new(alloc)?,
             record: [0; 7],
-            lists: Lists::new(alloc),
+            lists: Lists::new(alloc)?,
             first: 0,
             is_pending: false,
         })
@@ -73,7 +85,7 @@ impl Course {
 
     // A file begins.
     pub fn open(&mut self, name: &'static str) {
-        self.place = Place::new(self.alloc, name);
+        self.place.begin(name);
         self.is_pending = false;
     }
 

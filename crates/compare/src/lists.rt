@@ -1,7 +1,8 @@
 // The lists that the calls are lent, each beside what it is expected to hold. They lie on the heap, since the stack would not hold them
-// beside the deepest file that is loaded.
+// beside the deepest file that is loaded, and have all their room from the start, so that memory does not run out later.
 use script::line::Lengths;
-use script::part::{Laid, Part};
+use script::part::{Laid, Part, Pattern};
+use script::{BYTES, SLOTS};
 use std::alloc::{AllocError, Global};
 use std::fmt;
 
@@ -47,14 +48,19 @@ fn lay<T, L: Laid<T>>(to: &mut [T], at: usize, laid: &L) {
 }
 
 impl<T: Copy + PartialEq + Into<u64>> Lent<T> {
-    fn new(alloc: Global, name: &'static str, filler: T) -> Lent<T> {
-        Lent {
+    fn new(
+        alloc: Global,
+        name: &'static str,
+        filler: T,
+        room: usize,
+    ) -> Result<Lent<T>, AllocError> {
+        Ok(Lent {
             name,
             filler,
             lent: 0,
-            came: Vec::new(alloc),
-            expected: Vec::new(alloc),
-        }
+            came: Vec::with_capacity(alloc, room)?,
+            expected: Vec::with_capacity(alloc, room)?,
+        })
     }
 
     fn begin(&mut self) {
@@ -126,18 +132,26 @@ pub struct Lists {
     pub firsts: Lent<u32>,
     pub rests: Lent<u32>,
     pub file: Lent<u8>,
+    // The bytes that a call is handed.
+    pub handed: Vec<u8>,
 }
 
 impl Lists {
-    pub fn new(alloc: Global) -> Lists {
-        Lists {
-            bytes: Lent::new(alloc, "bytes", BYTE),
-            starts: Lent::new(alloc, "starts", SLOT),
-            ends: Lent::new(alloc, "ends", SLOT),
-            firsts: Lent::new(alloc, "firsts", SLOT),
-            rests: Lent::new(alloc, "rests", SLOT),
-            file: Lent::new(alloc, "file", BYTE),
-        }
+    pub fn new(alloc: Global) -> Result<Lists, AllocError> {
+        Ok(Lists {
+            bytes: Lent::new(alloc, "bytes", BYTE, BYTES)?,
+            starts: Lent::new(alloc, "starts", SLOT, SLOTS)?,
+            ends: Lent::new(alloc, "ends", SLOT, SLOTS)?,
+            firsts: Lent::new(alloc, "firsts", SLOT, SLOTS)?,
+            rests: Lent::new(alloc, "rests", SLOT, SLOTS)?,
+            file: Lent::new(alloc, "file", BYTE, BYTES)?,
+            handed: Vec::with_capacity(alloc, BYTES)?,
+        })
+    }
+
+    // What a call is handed next.
+    pub fn hand(&mut self, bytes: &Pattern<'_>) -> Result<(), AllocError> {
+        bytes.put_into(&mut self.handed)
     }
 
     // A case begins: nothing is lent.

@@ -31,7 +31,7 @@ past-at size n x y (says (range start end)) go p q f =
 past-at size n x y (says (value v)) go p q f = f (x + len_for v) (y + len_for v) (omega arith) (omega arith)
 past-at size n x y (refuses code node) go p q f = refl
 
-scan-past : (a : Allocator) (t : AtomSlots) (size : ℕ) (ns : List ℕ) (x y : ℕ) → size < x → size < y → scan a t size ns x ≡ scan a t size ns y
+pub scan-past : (a : Allocator) (t : AtomSlots) (size : ℕ) (ns : List ℕ) (x y : ℕ) → size < x → size < y → scan a t size ns x ≡ scan a t size ns y
 unfolding scan
 scan-past a t size [] x y p q = rw (ne_eqb x size (λ e. omega arith), ne_eqb y size (λ e. omega arith))
 scan-past a t size (n ∷ ns) x y p q = past-at size n x y (atom_of a t n) (scan a t size ns) p q (scan-past a t size ns)

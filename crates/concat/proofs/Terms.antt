@@ -32,7 +32,7 @@ same_at a b k (says (range start end)) f h = slice-same b k start end a.used.byt
 same_at a b k (says (value v)) f h = refl
 same_at a b k (refuses code node) f h = refl
 
-term-same : (a : Allocator) (t : AtomSlots) (n : ℕ) (b k : List ℕ)
+pub term-same : (a : Allocator) (t : AtomSlots) (n : ℕ) (b k : List ℕ)
     → take a.used.bytes b ≡ take a.used.bytes k → term_bytes b (atom_of a t n) ≡ term_bytes k (atom_of a t n)
 term-same a t n b k h = same_at a b k (atom_of a t n) (atom_in a t n) h
 

@@ -51,7 +51,9 @@ fn concat_all(
     ensures same { SameStore store.old store.new }
 {
     sizes::measure(a, store.slots(), size, nodes)?;
-    need(atom::store_room(a, size, store), Code::Full, NIL)?;
+    let (starts, ends) = (store.starts.len(), store.ends.len());
+    let room = atom::store_room(a, size, store.bytes.len(), starts, ends);
+    need(room, Code::Full, NIL)?;
     let from = a.used.bytes;
     let at = a.used.atoms;
     let bytes = &mut *store.bytes;

@@ -32,21 +32,21 @@ fn limit_tests(a: &Allocator, len: usize) -> Result<(), Refusal>
     )
 }
 
-// Whether the lent slices can hold len bytes and one slot more.
-pub fn store_room(a: &Allocator, len: usize, store: &AtomStore) -> bool
+// Whether slices of these lengths can hold len bytes and one slot more.
+pub fn store_room(a: &Allocator, len: usize, bytes: usize, starts: usize, ends: usize) -> bool
     requires { a.now.used.atoms < 62500000 }
-    ensures value { result ≡ store_room_at a.now len (length store.now.bytes.now) (length store.now.starts.now) (length store.now.ends.now) }
-    ensures room { OnTrue result ((a.now.used.bytes + len ≤ 4294967295) × (a.now.used.bytes + len ≤ length store.now.bytes.now)
-        × (a.now.used.atoms < length store.now.starts.now) × (a.now.used.atoms < length store.now.ends.now)) }
+    ensures value { result ≡ store_room_at a.now len bytes starts ends }
+    ensures room { OnTrue result ((a.now.used.bytes + len ≤ 4294967295) × (a.now.used.bytes + len ≤ bytes)
+        × (a.now.used.atoms < starts) × (a.now.used.atoms < ends)) }
 {
     let end = sound::total(a.used.bytes, len);
     if record::TOP < end {
         return false;
     }
-    if store.bytes.len() < end {
+    if bytes < end {
         return false;
     }
-    sound::fit(a.used.atoms + 1, store.starts.len(), store.ends.len())
+    sound::fit(a.used.atoms + 1, starts, ends)
 }
 
 // Bytes and one slot for v, where there is room for them.
@@ -57,7 +57,9 @@ pub fn store_atom(a: &mut Allocator, store: &mut AtomStore, v: &[u8]) -> Result<
         ≡ store_atom a.old v.now (store_lent store.old) }
     ensures same { SameStore store.old store.new }
 {
-    need(store_room(a, v.len(), store), Code::Full, NIL)?;
+    let (starts, ends) = (store.starts.len(), store.ends.len());
+    let room = store_room(a, v.len(), store.bytes.len(), starts, ends);
+    need(room, Code::Full, NIL)?;
     let from = a.used.bytes;
     let at = a.used.atoms;
     octets::copy(v, &mut store.bytes[from..]);

@@ -1,10 +1,11 @@
-// What a program is given by its caller: its arguments, and files by their names. A name is bytes, for it may be no text.
+// What a program is given by its caller: its arguments, files by their names, and the bytes of an input. A name is bytes, for it may be no text.
 #![tactic(auto)]
 
 ghost use Rattle.std.specs.Prelude.{◌≤◌, length, IfSome};
+ghost use Rattle.std.specs.Io.{ReadsAtMost};
 
 use std::env::FillError;
-use std::io::{Error, ErrorKind, Result};
+use std::io::{Error, ErrorKind, Read, Result};
 use std::rt::{Env, Files};
 use std::{fs, str};
 
@@ -37,4 +38,20 @@ pub fn each_argument<R: Env, F: FnMut(&[u8]) -> Result<()>>(rt: &R, mut f: F) ->
 pub fn open<R: Files>(rt: &R, name: &[u8]) -> Result<R::File> {
     let text = str::from_utf8(name).map_err(|_| Error::from(ErrorKind::InvalidFilename))?;
     fs::open(rt, text)
+}
+
+// Reads until the buffer is full or the input ends, and answers how many bytes came. Each read is lent all that is left of the buffer: an
+// input of messages loses what a shorter read leaves.
+pub fn read_full<R: Read>(from: &mut R, buf: &mut [u8]) -> Result<usize>
+    ensures { ReadsAtMost result buf.new }
+{
+    let mut done = 0;
+    while done < buf.len() {
+        let n = from.read(&mut buf[done..])?;
+        if n == 0 {
+            return Ok(done);
+        }
+        done += n;
+    }
+    Ok(done)
 }

@@ -10,7 +10,7 @@ ghost use Rattle.rules.specs.State.{together};
 ghost use Rattle.rules.specs.Record.{checkpoint};
 ghost use Rattle.rules.specs.Lent.{store_lent, pair_store_of, lists_lent, SameStore};
 ghost use Rattle.rules.specs.Paper.{said_by, option_paper, verdict_paper, maybe_paper};
-ghost use Rattle.request.specs.Request.{request_is, way_of, restoring};
+ghost use Rattle.request.specs.Request.{request_is, meant, way_of, restoring};
 ghost use Rattle.machine.specs.Machine.{told_of, tells, fresh_machine, with_state, did_of, did_take, shown_by, did_restore, acted, act_of, SameStores};
 ghost use Rattle.machine.specs.Sane.{Sane};
 
@@ -146,8 +146,21 @@ impl Machine {
         Ok(self.back(&k.used, way, before, outcome))
     }
 
+    // What a record asks; a bad one asks nothing, and does nothing.
+    pub fn act(&mut self, stores: &mut Stores, request: Option<Request>) -> Told
+        requires { Sane self.old }
+        ensures value { acted (did_of self.new result) (lists_lent stores.new)
+            ≡ act_of self.old (lists_lent stores.old) (meant request.entry) }
+        ensures same { SameStores stores.old stores.new }
+    {
+        match request {
+            Some(request) => Told::from(self.perform(stores, request)),
+            None => bad(),
+        }
+    }
+
     // What a request does.
-    pub fn act(&mut self, stores: &mut Stores, request: Request) -> Result<Option<u32>, Refusal>
+    pub fn perform(&mut self, stores: &mut Stores, request: Request) -> Result<Option<u32>, Refusal>
         requires { Sane self.old }
         ensures value { acted (did_of self.new (tells (said_by option_paper result))) (lists_lent stores.new)
             ≡ act_of self.old (lists_lent stores.old) (request_is request.entry) }

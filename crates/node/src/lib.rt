@@ -93,14 +93,21 @@ pub fn index(n: u32) -> Result<usize, Refusal>
 pub fn is_atom(n: u32) -> Result<bool, Refusal>
     ensures { said_in result ≡ is_atom n }
 {
-    Ok(object_type(n)? != ObjectType::Pair)
+    match view(n)? {
+        View::Pair(_) => Ok(false),
+        View::Bytes(_) => Ok(true),
+        View::Small(_) => Ok(true),
+    }
 }
 
 // Whether a node is a pair.
 pub fn is_pair(n: u32) -> Result<bool, Refusal>
     ensures { said_in result ≡ is_pair n }
 {
-    Ok(object_type(n)? == ObjectType::Pair)
+    match view(n)? {
+        View::Pair(_) => Ok(true),
+        View::Bytes(_) | View::Small(_) => Ok(false),
+    }
 }
 
 // How many bytes the shortest form of a value takes: the top bit of the first byte is a sign, so one byte holds the values below 0x80 only.

@@ -1,15 +1,17 @@
 // Bytes in hexadecimal, two digits a byte.
-use std::fmt;
-use std::fmt::{Display, Formatter};
+use std::io::{Result, Write};
 
-#[derive(Clone, Copy)]
-pub struct Hex<'a>(pub &'a [u8]);
+const DIGITS: [u8; 16] = *b"0123456789abcdef";
 
-impl Display for Hex<'_> {
-    fn fmt<W: fmt::Write>(&self, f: &mut Formatter<W>) -> fmt::Result {
-        for b in self.0 {
-            write!(f, "{b:02x}")?;
+// Writes the bytes' digits, those of some bytes at a time: a write for each byte would cost more than the digits.
+pub fn put<W: Write>(to: &mut W, bytes: &[u8]) -> Result<()> {
+    for part in bytes.chunks(64) {
+        let mut digits = [[0u8; 2]; 64];
+        for (two, b) in digits.iter_mut().zip(part) {
+            *two = [DIGITS[(b >> 4) as usize], DIGITS[(b & 15) as usize]];
         }
-        Ok(())
+        let n = part.len().min(64);
+        to.write_all(digits[..n].as_flattened())?;
     }
+    Ok(())
 }

@@ -5,7 +5,6 @@ mod hex;
 
 ghost use Rattle.std.specs.Prelude.{◌+◌, ◌≤◌};
 
-use hex::Hex;
 use reads::part;
 use rules::{Allocator, NodeVisitor, Slices};
 use std::io::{Result, Write};
@@ -56,6 +55,8 @@ impl Tree<'_> {
         if part.is_empty() {
             return writeln!(to, "{kind} {n}");
         }
-        writeln!(to, "{kind} {n} {}", Hex(part))
+        write!(to, "{kind} {n} ")?;
+        hex::put(to, part)?;
+        writeln!(to)
     }
 }

@@ -1,6 +1,6 @@
 // Text on its way to standard output. It waits in a block that is written out when it is full, for a write a word would be slow.
 // There is no heap, so the block lies in the page itself.
-ghost use Rattle.std.specs.Prelude.{◌≡◌, ◌<◌, [], length, None, OnOk, IfOk};
+ghost use Rattle.std.specs.Prelude.{◌≡◌, ◌<◌, [], length, None, OnOk, IfOk, IfErr};
 ghost use Rattle.std.specs.Io.{WritesAtMost};
 ghost use Rattle.std.specs.Io.KnownBytes.{Appends, WriteAppends, Keeps};
 
@@ -24,7 +24,7 @@ impl<W> Page<W> {
     }
 }
 
-// A write that fails may have written a part: of what waits nothing is said then.
+// A write that fails may have written a part; all that waited waits on.
 impl<W: Write> Write for Page<W> {
     // Takes as much as there is room for, once a full block is written out.
     fn write(&mut self, buf: &[u8]) -> Result<usize>
@@ -43,6 +43,7 @@ impl<W: Write> Write for Page<W> {
         ensures bytes { Keeps None None }
         ensures written { OnOk result (Appends (W.contents self.old.to) (W.contents self.new.to) self.old.waiting.items) }
         ensures empty { OnOk result (self.new.waiting.items ≡ []) }
+        ensures kept { IfErr result (λ e. self.new.waiting ≡ self.old.waiting) }
     {
         self.to.write_all(&self.waiting)?;
         self.waiting.clear();

@@ -1,9 +1,9 @@
 // Where a program file's bytes come from: a file by its name, or standard input, whose name is `-`.
-ghost use Rattle.std.specs.Prelude.{◌≤◌, length, IfOk};
+ghost use Rattle.std.specs.Prelude.{◌<◌, length, IfOk};
 
+use std::fmt;
 use std::io::{Error, Read};
 use std::rt::Files;
-use std::{fmt, io};
 
 // The longest file.
 const LONGEST: usize = 131072;
@@ -15,7 +15,7 @@ pub const ROOM: usize = LONGEST + 1;
 const CLOSED: i32 = 9;
 
 // Why a file is not shown, with the system's reason where there is one.
-#[derive(Drop)]
+#[derive(Clone, Copy)]
 pub enum Failure {
     TooLong,
     NotOpened(Error),
@@ -42,15 +42,14 @@ impl fmt::Display for Failure {
 }
 
 // Reads to the end of the file. One that fills the buffer is too long.
-fn read_all<'b, R: Read>(from: &mut R, buf: &'b mut [u8; ROOM]) -> Result<&'b [u8], Failure>
-    ensures { IfOk result (λ s. length s.now ≤ 131072) }
+fn read_all<'b, R: Read>(from: &mut R, buf: &'b mut [u8]) -> Result<&'b [u8], Failure>
+    ensures { IfOk result (λ s. length s.now < length buf.old) }
 {
-    let mut to = &mut buf[..];
-    let n = io::copy(&mut from.take(ROOM as u64), &mut to).map_err(Failure::NotRead)?;
-    if n > LONGEST as u64 {
+    let n = given::read_full(from, buf).map_err(Failure::NotRead)?;
+    if n == buf.len() {
         return Err(Failure::TooLong);
     }
-    Ok(&buf[..n as usize])
+    Ok(&buf[..n])
 }
 
 // Reads the file of a name, which is closed before its end is told. Standard input is read once: it counts as closed behind that.
@@ -58,9 +57,9 @@ pub fn fetch<'b, R: Files, I: Read + Drop>(
     rt: &R,
     input: &mut Option<I>,
     name: &[u8],
-    buf: &'b mut [u8; ROOM],
+    buf: &'b mut [u8],
 ) -> Result<&'b [u8], Failure>
-    ensures { IfOk result (λ s. length s.now ≤ 131072) }
+    ensures { IfOk result (λ s. length s.now < length buf.old) }
 {
     if matches!(name, b"-") {
         let Some(mut from) = input.take() else {

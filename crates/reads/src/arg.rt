@@ -44,11 +44,11 @@ pub fn arg(a: &Allocator, atoms: AtomSlots, n: u32) -> Result<Arg, Refusal>
     }
 }
 
-// An argument as an atom: a pair is refused with that node.
-pub fn atom_arg(n: u32, x: Arg) -> Result<Atom, Refusal>
-    ensures { said_by atom_paper result ≡ atom_arg n (says (arg_paper x)) }
+// An argument as an atom: a pair is refused with that node, and what was refused before stays so.
+pub fn atom_arg(n: u32, x: Result<Arg, Refusal>) -> Result<Atom, Refusal>
+    ensures { said_by atom_paper result ≡ atom_arg n (said_by arg_paper x) }
 {
-    match x {
+    match x? {
         Arg::Pair(_) => Err(Refusal {
             code: Code::ExpectedAtom,
             node: n,
@@ -74,5 +74,5 @@ pub fn atom_of(a: &Allocator, atoms: AtomSlots, n: u32) -> Result<Atom, Refusal>
     ensures value { said_by atom_paper result ≡ atom_of a.now (atoms_of atoms.entry) n }
     ensures facts { IfOk result (λ x. AtomIn a.now (atom_paper x)) }
 {
-    atom_arg(n, arg(a, atoms, n)?)
+    atom_arg(n, arg(a, atoms, n))
 }

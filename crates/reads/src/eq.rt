@@ -19,7 +19,8 @@ fn same_small(v: u32, x: &[u8]) -> bool
     node::fits_in_small_atom(x) == Some(v)
 }
 
-// Whether two atoms have the same bytes.
+// Whether two atoms have the same bytes. As a call of its own it would be handed both through memory.
+#[inline(always)]
 fn equal(bytes: &[u8], x: Atom, y: Atom) -> bool
     requires { Inside (length bytes.now) (says (atom_paper x)) × Inside (length bytes.now) (says (atom_paper y)) }
     ensures { result ≡ same_bytes (atom_bytes bytes.now (atom_paper x)) (atom_bytes bytes.now (atom_paper y)) }
@@ -51,7 +52,7 @@ pub fn atom_eq(
     )?;
     let left = arg::arg(a, atoms, lhs)?;
     let right = arg::arg(a, atoms, rhs)?;
-    let x = arg::atom_arg(lhs, left)?;
-    let y = arg::atom_arg(rhs, right)?;
+    let x = arg::atom_arg(lhs, Ok(left))?;
+    let y = arg::atom_arg(rhs, Ok(right))?;
     Ok(equal(bytes, x, y))
 }

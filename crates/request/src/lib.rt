@@ -6,7 +6,7 @@ pub mod kind;
 pub mod nodes;
 pub mod record;
 
-ghost use Rattle.std.specs.Prelude.{◌≡◌, IfSome, option_map};
+ghost use Rattle.std.specs.Prelude.{◌≡◌};
 ghost use Rattle.request.specs.Request.{meant, request_at, frame_of, frame_size};
 
 use nodes::Nodes;
@@ -41,22 +41,26 @@ pub enum Request<'a> {
     Restore(Way, usize),
 }
 
-// A request, and how many bytes of the input are its record.
+// A request, if the record is one, and how many bytes of the input are the record: none where it is cut short.
 #[derive(Clone, Copy)]
 pub struct Asked<'a> {
-    pub request: Request<'a>,
+    pub request: Option<Request<'a>>,
     pub size: usize,
 }
 
 // What the record at the front of the input asks; nothing where it is cut short, of no kind or of a wrong length.
-pub fn read<'a>(rest: &'a [u8]) -> Option<Asked<'a>>
-    ensures meaning { meant (option_map (λ a. a.request) result) ≡ request_at rest.now }
-    ensures size { IfSome result (λ a. a.size ≡ frame_size (frame_of rest.now)) }
+pub fn read<'a>(rest: &'a [u8]) -> Asked<'a>
+    ensures meaning { meant result.request ≡ request_at rest.now }
+    ensures size { result.size ≡ frame_size (frame_of rest.now) }
 {
-    let record = Record::first(rest)?;
-    let request = record.request()?;
-    Some(Asked {
-        request,
-        size: record.size(),
-    })
+    match Record::first(rest) {
+        Some(record) => Asked {
+            request: record.request(),
+            size: record.size(),
+        },
+        None => Asked {
+            request: None,
+            size: 0,
+        },
+    }
 }

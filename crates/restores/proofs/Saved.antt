@@ -31,7 +31,7 @@ saved_bytes s e l dst last h k q =
     front (take (e - s) (drop s l)) dst last (e - s) (ap length (part_slice s e l h) ∙ length-slice s e l k) q ∙ part_slice s e l h
 
 -- a call that is accepted has passed its tests
-passed_on : (t : Said Done) (a : Allocator) (s : Store) (f : Done → Out ℕ Store) (n : ℕ) → (settle t a s f).said ≡ says n → settle t a s f ≡ f done
+pub passed_on : (t : Said Done) (a : Allocator) (s : Store) (f : Done → Out ℕ Store) (n : ℕ) → (settle t a s f).said ≡ says n → settle t a s f ≡ f done
 passed_on (says done) a s f n h = refl
 passed_on (refuses code node) a s f n h = let z : ◌≡◌ {A = ℕ} 0 1 = cc in absurd (omega arith)
 

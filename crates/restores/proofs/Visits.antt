@@ -17,7 +17,7 @@ use Rattle.rules.proofs.Needs.{need_ind}
 use Rattle.restores.specs.Course.{visited_course}
 
 -- beside a sound record, node() is what its argument shows
-node_visits : (a : Allocator) (t : AtomSlots) (p : PairSlots) (n : ℕ) → slots_sound a t p ≡ true → node a t p n ≡ visited a p (arg a t n)
+pub node_visits : (a : Allocator) (t : AtomSlots) (p : PairSlots) (n : ℕ) → slots_sound a t p ≡ true → node a t p n ≡ visited a p (arg a t n)
 unfolding node need
 node_visits a t p n h = rw h
 

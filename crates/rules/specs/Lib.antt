@@ -15,3 +15,4 @@ pub mod Load
 pub mod Save
 pub mod Whole
 pub mod Paper
+pub mod Words

@@ -2,6 +2,8 @@
 // What each case means, with document 01's numbers, is set out in specs/Paper.antt.
 #![tactic(auto)]
 
+pub mod words;
+
 ghost use Rattle.std.specs.Prelude.{◌≡◌, MatchResult, true, false};
 
 // How many atoms, pairs and bytes.

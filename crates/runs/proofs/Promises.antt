@@ -1,5 +1,5 @@
 -- From contracts to runs: whatever meets the promise of a call, handed the last record and the same slots, leaves a run a run.
--- Each premise is the very equation in the call's `ensures`. Assumes nothing.
+-- Each premise is the equation in the call's `ensures`; new_integer's is that of new_i64, of which new_u64's is the case of a u64. Assumes nothing.
 use Prim.Native.Nat.{ℕ, ◌<◌}
 use Rattle.std.specs.Prelude.{Result, Ok, Err}
 use mathlib.Core.Path.{◌≡◌, sym, ap, subst}

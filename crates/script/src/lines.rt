@@ -1,13 +1,13 @@
 // The lines of a file.
 use std::alloc::Global;
 use std::io;
-use std::io::{BufRead, BufReader, Read, Take};
+use std::io::{BufRead, BufReader, Read, Seek, SeekFrom, Take};
 
 // The most characters of a line.
 const LONGEST: usize = 20000;
 
 // How many bytes are looked at for a line's end, so that one that is too long is seen.
-const WINDOW: u64 = 20480;
+pub const WINDOW: usize = 20480;
 
 // A file longer than any that is kept here is read no further.
 const FAR: u64 = 1 << 32;
@@ -27,10 +27,12 @@ pub struct Lines<F: Read + Drop> {
     at: u64,
 }
 
-impl<F: Read + Drop> Lines<F> {
-    pub fn new(alloc: Global, file: F) -> io::Result<Lines<F>> {
+impl<F: Read + Seek + Drop> Lines<F> {
+    // The lines from a file's start on. What has no start to go to, as a pipe has none, is no file of lines.
+    pub fn new(alloc: Global, mut file: F) -> io::Result<Lines<F>> {
+        file.seek(SeekFrom::Start(0))?;
         Ok(Lines {
-            reader: BufReader::new(alloc, file)?.take(WINDOW),
+            reader: BufReader::new(alloc, file)?.take(WINDOW as u64),
             at: 0,
         })
     }
@@ -41,7 +43,7 @@ impl<F: Read + Drop> Lines<F> {
         if FAR <= self.at {
             return Ok(Found::End);
         }
-        self.reader.set_limit(WINDOW);
+        self.reader.set_limit(WINDOW as u64);
         let n = self.reader.read_until(b'\n', line)?;
         self.at = self.at.saturating_add(n as u64);
         if n == 0 {

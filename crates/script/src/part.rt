@@ -1,7 +1,9 @@
 // What a line lays down: bytes by a pattern, slots by steps.
+ghost use Rattle.std.specs.Prelude.{◌<◌, IfSome};
+
 use super::words::{Unread, Words};
 use super::{BYTES, SLOTS};
-use std::alloc::{AllocError, Global};
+use std::alloc::AllocError;
 
 // What can be laid into a list of such entries.
 pub trait Laid<T> {
@@ -20,7 +22,9 @@ pub struct Pattern<'a> {
 }
 
 // The value of a hexadecimal digit.
-fn digit(b: u8) -> Option<u8> {
+fn digit(b: u8) -> Option<u8>
+    ensures { IfSome result (λ d. d < 16) }
+{
     match b {
         b'0'..=b'9' => Some(b - b'0'),
         b'a'..=b'f' => Some(b - b'a' + 10),
@@ -53,11 +57,12 @@ impl<'a> Pattern<'a> {
         }
     }
 
-    // The bytes themselves.
-    pub fn to_vec(&self, alloc: Global) -> Result<Vec<u8>, AllocError> {
-        let mut bytes = vec![in alloc; 0; self.len]?;
-        self.lay(&mut bytes);
-        Ok(bytes)
+    // Lays the bytes themselves into a buffer, in the place of what it held.
+    pub fn put_into(&self, bytes: &mut Vec<u8>) -> Result<(), AllocError> {
+        bytes.clear();
+        bytes.resize(self.len, 0)?;
+        self.lay(bytes);
+        Ok(())
     }
 }
 
@@ -68,6 +73,13 @@ impl Laid<u8> for Pattern<'_> {
 
     fn lay(&self, to: &mut [u8]) {
         let (pairs, _) = self.digits.as_chunks::<2>();
+        if let [[high, low]] = pairs {
+            let only = byte(*high, *low);
+            for slot in to.iter_mut() {
+                *slot = only;
+            }
+            return;
+        }
         for (slot, [high, low]) in to.iter_mut().zip(pairs.iter().cycle()) {
             *slot = byte(*high, *low);
         }
@@ -98,10 +110,11 @@ impl Laid<u32> for Steps {
     }
 
     fn lay(&self, to: &mut [u32]) {
+        let Steps { by, .. } = *self;
         let mut next = self.first;
         for slot in to.iter_mut() {
             *slot = next;
-            next = next.wrapping_add(self.by);
+            next = next.wrapping_add(by);
         }
     }
 }

@@ -1,7 +1,7 @@
 -- What every machine of a run has is kept by every record. Assumes nothing.
 use Rattle.std.proofs.Common.{ℕ, ◌+◌, ◌≤◌, ◌<◌, ◌≡◌, List, length, refl, sym, ap, ◌∙◌, arith}
 use mathlib.Core.Path.{ap₂}
-use Rattle.std.specs.Prelude.{Option, None, Some, IfSome}
+use Rattle.std.specs.Prelude.{Option, None, Some, IfSome, option_map}
 use Rattle.rules.specs.declared.Allocator.{Allocator}
 use Rattle.rules.specs.Small.{Octets}
 use Rattle.rules.specs.State.{Lists}
@@ -9,12 +9,11 @@ use Rattle.rules.proofs.Limits.{Limits}
 use Rattle.runs.specs.Wf.{Sound}
 use Rattle.request.specs.declared.Request as Code
 use Rattle.request.specs.declared.Request.TheVariants.{Make, TakeCheckpoint, Restore}
-use Rattle.request.specs.Request.{Request, making, taking, restoring, bad, request_is, Frame, request_in, request_at, frame_of, frame_size}
+use Rattle.request.specs.Request.{Request, making, taking, restoring, bad, meant, Frame, request_in, request_at, frame_of, frame_size}
 use Rattle.request.proofs.Frames.{frame_fits}
 use Rattle.request.proofs.Fine.{request_fine}
 use Rattle.machine.specs.declared.Machine.{Machine}
-use Rattle.machine.specs.declared.Told.{Told}
-use Rattle.machine.specs.Machine.{told_of, did_of, Acted, acted, act_of}
+use Rattle.machine.specs.Machine.{Acted, act_of}
 use Rattle.machine.specs.Sane.{Ready}
 use Rattle.machine.proofs.Kept.{Kept, act_kept}
 use Rattle.trace.specs.Step.{with_row, bytes_of, Stepped, stepped, step_on}
@@ -41,19 +40,18 @@ counted_ready m x h k = record {
 pub closable : (m : Machine) (x : Acted) → m.shown < 536870912 → Kept m x → (x.did.machine.shown < 18446744073709551615) × Limits x.did.machine.state
 closable m x h k = (omega (arith, k.rows-shown), limits_of x.did.machine.state x.left k.formed.sound)
 
--- what was asked and what it did make a step; a request that the code has is not a bad one
-pub step_made : (m : Machine) (l : Lists) (i : List ℕ) (a : Acted) (r : Code.Request) (n : ℕ)
-    → a ≡ act_of m l (request_is r) → request_is r ≡ request_at i → n ≡ frame_size (frame_of i) → stepped a (Some n) ≡ step_on m l i
-step_made m l i a r n e f g = ap₂ stepped (e ∙ ap (act_of m l) f) (ap Some g ∙ sym (whole r _) ∙ ap (λ (x : Request). bytes_of x (frame_size (frame_of i))) f)
+-- what was asked and what it did make a step, of n bytes if it is a request
+pub step_made : (m : Machine) (l : Lists) (i : List ℕ) (a : Acted) (r : Option Code.Request) (n : ℕ) (size : Option ℕ)
+    → a ≡ act_of m l (meant r) → meant r ≡ request_at i → n ≡ frame_size (frame_of i) → option_map (λ q. n) r ≡ size → stepped a size ≡ step_on m l i
+step_made m l i a r n size e f g h =
+    ap₂ stepped (e ∙ ap (act_of m l) f)
+    (sym h ∙ ap (λ (x : ℕ). option_map (λ q. x) r) g ∙ sym (size_of r _) ∙ ap (λ (x : Request). bytes_of x (frame_size (frame_of i))) f)
   where
-    whole : (r : Code.Request) (n : ℕ) → bytes_of (request_is r) n ≡ Some n
-    whole (Make m) n = refl
-    whole TakeCheckpoint n = refl
-    whole (Restore way number) n = refl
-
-pub step-ended : (m : Machine) (l : Lists) (i : List ℕ) (told : Told) → told ≡ told_of 16 None → bad ≡ request_at i → stepped (acted (did_of m told) l) None ≡ step_on m l i
-step-ended m l i told e f =
-    ap (λ (x : Told). stepped (acted (did_of m x) l) None) e ∙ ap (λ (x : Request). stepped (act_of m l x) (bytes_of x (frame_size (frame_of i)))) f
+    size_of : (r : Option Code.Request) (n : ℕ) → bytes_of (meant r) n ≡ option_map (λ q. n) r
+    size_of None n = refl
+    size_of (Some (Make m)) n = refl
+    size_of (Some TakeCheckpoint) n = refl
+    size_of (Some (Restore way number)) n = refl
 
 bytes_if : (P : ℕ → Type 0) (r : Request) (n : ℕ) → P n → IfSome (bytes_of r n) P
 bytes_if P (making c) n h = h

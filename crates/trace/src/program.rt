@@ -1,25 +1,12 @@
 // The request program: records in, their text to standard output.
-ghost use Rattle.std.specs.Io.{ReadsAtMost};
-
 use crate::rows;
-use std::io;
-use std::io::{Read, Write};
-
-// Reads until the buffer is full or the input ends, and answers how many bytes came.
-fn read_full<R: Read>(from: &mut R, buf: &mut [u8]) -> io::Result<usize>
-    ensures { ReadsAtMost result buf.new }
-{
-    let room = buf.len();
-    let mut to = &mut buf[..];
-    let n = io::copy(&mut from.take(room as u64), &mut to)?;
-    Ok(room.min(n as usize))
-}
+use std::io::{Read, Result, Write};
 
 // Reads records from a reader and prints their rows, with the stores of document 01.
-pub fn replay<R: Read, W: Write>(from: &mut R, to: &mut W) -> io::Result<()> {
+pub fn replay<R: Read, W: Write>(from: &mut R, to: &mut W) -> Result<()> {
     // One byte more than the longest input, so that a longer one is seen.
     let mut input = [0u8; 65537];
-    let n = read_full(from, &mut input)?;
+    let n = given::read_full(from, &mut input)?;
     let mut bytes = [0u8; 32768];
     let mut starts = [0u32; 2048];
     let mut ends = [0u32; 2048];

@@ -46,14 +46,13 @@ fn advance(m: &mut Machine, stores: &mut Stores, rest: &[u8], page: &mut Page) -
         m.new (lists_lent stores.new) page.new result }
     ensures same { SameStores stores.old stores.new × SamePage page.old page.new }
 {
-    let Some(asked) = request::read(rest) else {
-        show(m, machine::bad(), page);
-        return None;
-    };
-    let answer = m.act(stores, asked.request);
-    let told = Told::from(answer);
+    let asked = request::read(rest);
+    let told = m.act(stores, asked.request);
     show(m, told, page);
-    Some(asked.size)
+    match asked.request {
+        Some(_) => Some(asked.size),
+        None => None,
+    }
 }
 
 // The records of input from at0 on, until none is left, a bad one ends the run, or the page has no room for a row and the last
