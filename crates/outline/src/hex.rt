@@ -4,7 +4,7 @@ use std::io::{Result, Write};
 const DIGITS: [u8; 16] = *b"0123456789abcdef";
 
 // Writes the bytes' digits, those of some bytes at a time: a write for each byte would cost more than the digits.
-pub fn put<W: Write>(to: &mut W, bytes: &[u8]) -> Result<()> {
+pub(crate) fn print<W: Write>(to: &mut W, bytes: &[u8]) -> Result<()> {
     for part in bytes.chunks(64) {
         let mut digits = [[0u8; 2]; 64];
         for (two, b) in digits.iter_mut().zip(part) {

@@ -56,7 +56,7 @@ impl Tree<'_> {
             return writeln!(to, "{kind} {n}");
         }
         write!(to, "{kind} {n} ")?;
-        hex::put(to, part)?;
+        hex::print(to, part)?;
         writeln!(to)
     }
 }

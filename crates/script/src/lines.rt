@@ -37,6 +37,19 @@ impl<F: Read + Seek + Drop> Lines<F> {
         })
     }
 
+    // Lays what is at hand, up to the next newline, behind a line: whether that was come to, or the end of what is looked at.
+    fn append(&mut self, line: &mut Vec<u8>) -> io::Result<bool> {
+        let part = self.reader.fill_buf()?;
+        let newline = memchr::memchr(b'\n', part);
+        let n = match newline {
+            Some(i) => i.saturating_add(1).min(part.len()),
+            None => part.len(),
+        };
+        line.extend_from_slice(&part[..n])?;
+        self.reader.consume(n);
+        Ok(n == 0 || newline.is_some())
+    }
+
     // Lays the next line into a buffer, without its newline.
     pub fn next(&mut self, line: &mut Vec<u8>) -> io::Result<Found> {
         line.clear();
@@ -44,7 +57,12 @@ impl<F: Read + Seek + Drop> Lines<F> {
             return Ok(Found::End);
         }
         self.reader.set_limit(WINDOW as u64);
-        let n = self.reader.read_until(b'\n', line)?;
+        for _ in 0..WINDOW {
+            if self.append(line)? {
+                break;
+            }
+        }
+        let n = line.len();
         self.at = self.at.saturating_add(n as u64);
         if n == 0 {
             return Ok(Found::End);

@@ -59,7 +59,6 @@ impl<'a> Pattern<'a> {
 
     // Lays the bytes themselves into a buffer, in the place of what it held.
     pub fn put_into(&self, bytes: &mut Vec<u8>) -> Result<(), AllocError> {
-        bytes.clear();
         bytes.resize(self.len, 0)?;
         self.lay(bytes);
         Ok(())
