@@ -45,7 +45,7 @@ fn follow<R: Files<File = File>, W: Write>(
         writeln!(out, "{name}: cannot be opened")?;
         return Ok(false);
     };
-    let mut lines = Lines::new(alloc, file)?;
+    let mut lines = Lines::from_start(alloc, file)?;
     course.open(name);
     for _ in turns.by_ref() {
         course.count_line();

@@ -77,7 +77,7 @@ impl Course {
             place: Place::new(alloc)?,
             tally: Tally::new(alloc)?,
             record: [0; 7],
-            lists: Lists::new(alloc)?,
+            lists: Lists::with_room(alloc)?,
             first: 0,
             is_pending: false,
         })

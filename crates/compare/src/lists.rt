@@ -1,5 +1,7 @@
 // The lists that the calls are lent, each beside what it is expected to hold. They lie on the heap, since the stack would not hold them
-// beside the deepest file that is loaded, and have all their room from the start, so that memory does not run out later.
+// beside the deepest file that is loaded. With all their room from the start, memory does not run out later.
+ghost use Rattle.std.specs.Prelude.{◌≡◌, ◌+◌};
+
 use script::line::Lengths;
 use script::part::{Laid, Part, Pattern};
 use script::{BYTES, SLOTS};
@@ -48,7 +50,19 @@ fn lay<T, L: Laid<T>>(to: &mut [T], at: usize, laid: &L) {
 }
 
 impl<T: Copy + PartialEq + Into<u64>> Lent<T> {
-    fn new(
+    fn new(alloc: Global, name: &'static str, filler: T) -> Lent<T>
+        ensures { result.lent ≡ 0 }
+    {
+        Lent {
+            name,
+            filler,
+            lent: 0,
+            came: Vec::new(alloc),
+            expected: Vec::new(alloc),
+        }
+    }
+
+    fn with_room(
         alloc: Global,
         name: &'static str,
         filler: T,
@@ -137,14 +151,30 @@ pub struct Lists {
 }
 
 impl Lists {
-    pub fn new(alloc: Global) -> Result<Lists, AllocError> {
+    // Lists without room, which they get as they are lent. Nothing is lent yet.
+    pub fn new(alloc: Global) -> Lists
+        ensures { result.bytes.lent + result.starts.lent + result.ends.lent + result.firsts.lent + result.rests.lent + result.file.lent ≡ 0 }
+    {
+        Lists {
+            bytes: Lent::new(alloc, "bytes", BYTE),
+            starts: Lent::new(alloc, "starts", SLOT),
+            ends: Lent::new(alloc, "ends", SLOT),
+            firsts: Lent::new(alloc, "firsts", SLOT),
+            rests: Lent::new(alloc, "rests", SLOT),
+            file: Lent::new(alloc, "file", BYTE),
+            handed: Vec::new(alloc),
+        }
+    }
+
+    // Lists that have all their room from the start.
+    pub fn with_room(alloc: Global) -> Result<Lists, AllocError> {
         Ok(Lists {
-            bytes: Lent::new(alloc, "bytes", BYTE, BYTES)?,
-            starts: Lent::new(alloc, "starts", SLOT, SLOTS)?,
-            ends: Lent::new(alloc, "ends", SLOT, SLOTS)?,
-            firsts: Lent::new(alloc, "firsts", SLOT, SLOTS)?,
-            rests: Lent::new(alloc, "rests", SLOT, SLOTS)?,
-            file: Lent::new(alloc, "file", BYTE, BYTES)?,
+            bytes: Lent::with_room(alloc, "bytes", BYTE, BYTES)?,
+            starts: Lent::with_room(alloc, "starts", SLOT, SLOTS)?,
+            ends: Lent::with_room(alloc, "ends", SLOT, SLOTS)?,
+            firsts: Lent::with_room(alloc, "firsts", SLOT, SLOTS)?,
+            rests: Lent::with_room(alloc, "rests", SLOT, SLOTS)?,
+            file: Lent::with_room(alloc, "file", BYTE, BYTES)?,
             handed: Vec::with_capacity(alloc, BYTES)?,
         })
     }
@@ -230,5 +260,28 @@ impl Lists {
             .or(self.firsts.difference())
             .or(self.rests.difference())
             .or(self.file.difference())
+    }
+}
+
+#[cfg(test)]
+mod tests {
+    use super::*;
+    use std::test::Fail;
+
+    // Lists made without room hold the fillers once they are lent, and tell what came to differ.
+    #[test]
+    fn new_lists_are_lent(rt: HostRuntime) -> Result<(), Fail> {
+        let mut lists = Lists::new(rt.alloc());
+        assert_eq!(rt; lists.bytes.part(), [].as_slice());
+        lists.lend(&[3, 1, 2, 1, 1, 2])?;
+        assert_eq!(rt; lists.bytes.part(), [165; 3].as_slice());
+        assert_eq!(rt; lists.ends.part(), [2779096485; 2].as_slice());
+        assert!(rt; lists.difference().is_none());
+        if let Some(byte) = lists.file.part_mut().first_mut() {
+            *byte = 7;
+        }
+        let told = format!(in rt.alloc(); "{}", lists.difference().ok_or("none")?)?;
+        assert_eq!(rt; told.as_str(), "file at 0: expected 165, came 7");
+        Ok(())
     }
 }

@@ -1,4 +1,6 @@
 // The lines of a file.
+ghost use Rattle.std.specs.Prelude.{◌≡◌, IfOk};
+
 use std::alloc::Global;
 use std::io;
 use std::io::{BufRead, BufReader, Read, Seek, SeekFrom, Take};
@@ -29,8 +31,17 @@ pub struct Lines<F: Read + Drop> {
 
 impl<F: Read + Seek + Drop> Lines<F> {
     // The lines from a file's start on. What has no start to go to, as a pipe has none, is no file of lines.
-    pub fn new(alloc: Global, mut file: F) -> io::Result<Lines<F>> {
+    pub fn from_start(alloc: Global, mut file: F) -> io::Result<Lines<F>> {
         file.seek(SeekFrom::Start(0))?;
+        Lines::new(alloc, file)
+    }
+}
+
+impl<F: Read + Drop> Lines<F> {
+    // The lines from where a file stands on.
+    pub fn new(alloc: Global, file: F) -> io::Result<Lines<F>>
+        ensures { IfOk result (λ lines. lines.at ≡ 0) }
+    {
         Ok(Lines {
             reader: BufReader::new(alloc, file)?.take(WINDOW as u64),
             at: 0,
@@ -75,5 +86,25 @@ impl<F: Read + Seek + Drop> Lines<F> {
             return Ok(Found::Unended);
         }
         Ok(Found::Line)
+    }
+}
+
+#[cfg(test)]
+mod tests {
+    use super::*;
+    use std::test::Fail;
+
+    // What has no place to go to has lines all the same.
+    #[test]
+    fn new_reads_what_cannot_seek(rt: HostRuntime) -> Result<(), Fail> {
+        let mut lines = Lines::new(rt.alloc(), b"one\n\nthree".as_slice())?;
+        let mut line = Vec::new(rt.alloc());
+        assert!(rt; matches!(lines.next(&mut line)?, Found::Line));
+        assert_eq!(rt; line.as_slice(), b"one".as_slice());
+        assert!(rt; matches!(lines.next(&mut line)?, Found::Line));
+        assert_eq!(rt; line.as_slice(), b"".as_slice());
+        assert!(rt; matches!(lines.next(&mut line)?, Found::Unended));
+        assert!(rt; matches!(lines.next(&mut line)?, Found::End));
+        Ok(())
     }
 }
