@@ -1,5 +1,5 @@
 // The lines of a file.
-ghost use Rattle.std.specs.Prelude.{◌≡◌, IfOk};
+ghost use Rattle.std.specs.Prelude.{◌≡◌, ◌≤◌, length, IfOk};
 
 use std::alloc::Global;
 use std::io;
@@ -62,7 +62,9 @@ impl<F: Read + Drop> Lines<F> {
     }
 
     // Lays the next line into a buffer, without its newline.
-    pub fn next(&mut self, line: &mut Vec<u8>) -> io::Result<Found> {
+    pub fn next(&mut self, line: &mut Vec<u8>) -> io::Result<Found>
+        ensures { IfOk result (λ found. found ≡ Found.Line → length line.new.items ≤ 20000) }
+    {
         line.clear();
         if FAR <= self.at {
             return Ok(Found::End);
