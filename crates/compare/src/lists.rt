@@ -1,6 +1,7 @@
 // The lists that the calls are lent, each beside what it is expected to hold. They lie on the heap, since the stack would not hold them
-// beside the deepest file that is loaded. With all their room from the start, memory does not run out later.
-ghost use Rattle.std.specs.Prelude.{◌≡◌, ◌+◌};
+// beside the deepest file that is loaded. Where they have all their room from the start, memory does not run out later.
+ghost use Rattle.std.specs.Prelude.{◌≡◌};
+ghost use Rattle.compare.specs.Lent.{lent_of, lent_in_all};
 
 use script::line::Lengths;
 use script::part::{Laid, Part, Pattern};
@@ -51,7 +52,7 @@ fn lay<T, L: Laid<T>>(to: &mut [T], at: usize, laid: &L) {
 
 impl<T: Copy + PartialEq + Into<u64>> Lent<T> {
     fn new(alloc: Global, name: &'static str, filler: T) -> Lent<T>
-        ensures { result.lent ≡ 0 }
+        ensures { lent_of result ≡ 0 }
     {
         Lent {
             name,
@@ -92,7 +93,9 @@ impl<T: Copy + PartialEq + Into<u64>> Lent<T> {
     }
 
     // How many entries are lent.
-    pub fn lent(&self) -> usize {
+    pub fn lent(&self) -> usize
+        ensures { result ≡ lent_of self.now }
+    {
         self.lent
     }
 
@@ -153,7 +156,7 @@ pub struct Lists {
 impl Lists {
     // Lists without room, which they get as they are lent. Nothing is lent yet.
     pub fn new(alloc: Global) -> Lists
-        ensures { result.bytes.lent + result.starts.lent + result.ends.lent + result.firsts.lent + result.rests.lent + result.file.lent ≡ 0 }
+        ensures { lent_in_all result ≡ 0 }
     {
         Lists {
             bytes: Lent::new(alloc, "bytes", BYTE),
@@ -272,8 +275,9 @@ mod tests {
     #[test]
     fn new_lists_are_lent(rt: HostRuntime) -> Result<(), Fail> {
         let mut lists = Lists::new(rt.alloc());
-        assert_eq!(rt; lists.bytes.part(), [].as_slice());
+        assert_eq!(rt; lists.bytes.lent(), 0);
         lists.lend(&[3, 1, 2, 1, 1, 2])?;
+        assert_eq!(rt; lists.bytes.lent(), 3);
         assert_eq!(rt; lists.bytes.part(), [165; 3].as_slice());
         assert_eq!(rt; lists.ends.part(), [2779096485; 2].as_slice());
         assert!(rt; lists.difference().is_none());

@@ -1,5 +1,6 @@
 // The lines of a file.
 ghost use Rattle.std.specs.Prelude.{◌≡◌, ◌≤◌, length, IfOk};
+ghost use Rattle.script.specs.Lines.{bytes_read};
 
 use std::alloc::Global;
 use std::io;
@@ -40,7 +41,7 @@ impl<F: Read + Seek + Drop> Lines<F> {
 impl<F: Read + Drop> Lines<F> {
     // The lines from where a file stands on.
     pub fn new(alloc: Global, file: F) -> io::Result<Lines<F>>
-        ensures { IfOk result (λ lines. lines.at ≡ 0) }
+        ensures { IfOk result (λ lines. bytes_read lines ≡ 0) }
     {
         Ok(Lines {
             reader: BufReader::new(alloc, file)?.take(WINDOW as u64),
