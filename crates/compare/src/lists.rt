@@ -275,7 +275,7 @@ mod tests {
     #[test]
     fn new_lists_are_lent(rt: HostRuntime) -> Result<(), Fail> {
         let mut lists = Lists::new(rt.alloc());
-        assert_eq!(rt; lists.bytes.lent(), 0);
+        assert_eq!(rt; lists.bytes.part(), [].as_slice());
         lists.lend(&[3, 1, 2, 1, 1, 2])?;
         assert_eq!(rt; lists.bytes.lent(), 3);
         assert_eq!(rt; lists.bytes.part(), [165; 3].as_slice());

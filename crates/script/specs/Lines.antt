@@ -2,6 +2,6 @@
 use Rattle.std.specs.Prelude.{ℕ}
 use Rattle.script.specs.declared.lines.Lines.{Lines}
 
--- how many bytes of the file were read so far
+-- how many bytes the lines that were handed out so far took, with their newlines
 abbrev pub bytes_read : {F : Type 0} → Lines F → ℕ
 bytes_read lines = lines.at
